@@ -1,0 +1,32 @@
+//! Rows, tables and statements as plain data.
+#![tactic(auto)]
+
+mod catalog;
+mod copies;
+mod expr;
+mod faults;
+mod fitting;
+mod list;
+mod memory;
+mod names;
+mod statement;
+mod table;
+mod text;
+mod value;
+
+pub use catalog::{Catalog, CatalogFault};
+pub use copies::Copies;
+pub use expr::{Expr, Op};
+pub use faults::{TypeFault, ValueFault};
+pub use fitting::fits;
+pub use list::List;
+pub use memory::NoMemory;
+pub use names::{KEYWORDS, is_keyword, is_name};
+pub use sqlite_items::Boxed;
+pub use statement::{Begun, NameList, SetItem, SetList, Statement};
+pub use table::{Column, ColumnList, Table};
+pub use text::Txt;
+pub use value::{Row, Sort, Value, ValueList};
+
+#[cfg(test)]
+mod tests;
