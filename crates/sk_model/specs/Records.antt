@@ -1,0 +1,78 @@
+-- What a record of a transaction promises against the list of commits.
+use Rattle.std.specs.Prelude.{◌≡◌, ℕ, ◌-◌, ◌<◌, ◌≤◌, List, [], ◌∷◌, ◌++◌, Option, Some, None, Bool, true, false, cond, ◌&&◌, take, drop}
+use Rattle.std.specs.List.{list_any, AllByRecursion}
+use Rattle.sk_rows.specs.declared.table.Table.{Table}
+use Rattle.sk_model.specs.declared.commit.Write.{Write}
+use Rattle.sk_model.specs.declared.commit.Commit.{Commit}
+use Rattle.sk_model.specs.declared.record.Said.{Said}
+use Rattle.sk_model.specs.declared.record.Record.{Record}
+use Rattle.sk_model.specs.declared.record.Ending.{Ending}
+use Rattle.sk_model.specs.declared.record.Ending.TheVariants as ending
+use Rattle.sk_model.specs.Database.{Tables, hits, after_writes, state, net}
+use Rattle.sk_model.specs.Replies.{reply_of, writes_of, is_judged, is_count}
+
+-- the writes of a statement with its reply: a count alone tells that it wrote
+abbrev pub writes_said : List Table → Tables → Said → List Write
+writes_said catalog db s = cond (is_count s.reply) (writes_of catalog db s.statement) []
+
+abbrev pub after_said : List Table → Tables → Said → Tables
+after_said catalog db s = after_writes db (writes_said catalog db s)
+
+-- these replies are those of one database that begins as db, one statement after another
+abbrev pub Told : List Table → Tables → List Said → Type 0
+Told catalog db [] = Unit {0}
+Told catalog db (s ∷ rest) =
+    cond (is_judged s.reply) (reply_of catalog db s.statement ≡ Some s.reply) (Unit {0})
+    × Told catalog (after_said catalog db s) rest
+
+-- all writes of these statements, where the database begins as db
+abbrev pub written : List Table → Tables → List Said → List Write
+written catalog db [] = []
+written catalog db (s ∷ rest) = writes_said catalog db s ++ written catalog (after_said catalog db s) rest
+
+-- each reply of the database is the one that the first p commits with the record's own writes give
+abbrev pub Explained : List Table → Tables → List Commit → ℕ → Record → Type 0
+Explained catalog opening order p r = Told catalog (state opening (take p order)) r.said
+
+-- the commit writes a row that these writes write too
+abbrev pub clashes : List Write → Commit → Bool
+clashes ws c = list_any (λ w. list_any (λ v. hits v.table v.key w) ws) c.writes
+
+-- no commit from p up to and without q writes a row that these writes write
+abbrev pub FirstWins : List Commit → ℕ → ℕ → List Write → Type 0
+FirstWins order p q ws = AllByRecursion (λ c. clashes ws c ≡ false) (take (q - p) (drop p order))
+
+-- a number, where there is one, is at most s
+abbrev pub AtMost : Option ℕ → ℕ → Type 0
+AtMost None s = Unit {0}
+AtMost (Some n) s = n ≤ s
+
+-- a later snapshot of one engine, where there is one, is at least the earlier one and the number that was drawn with it
+abbrev pub IsLater : Option ℕ → Option ℕ → Option ℕ → Type 0
+IsLater snapshot drawn None = Unit {0}
+IsLater snapshot drawn (Some s) = AtMost snapshot s × AtMost drawn s
+
+-- where r and s are of one session and s is the later, s reads what r read and what r committed
+abbrev pub Follows : Record → Record → Type 0
+Follows r s = r.label.session ≡ s.label.session → r.label.k < s.label.k
+    → IsLater r.mem r.drew_mem s.mem × IsLater r.store r.drew_store s.store
+
+-- no session goes back
+abbrev pub Fresh : List Record → Type 0
+Fresh records = AllByRecursion (λ r. AllByRecursion (Follows r) records) records
+
+abbrev pub is_committed : Ending → Bool
+is_committed ending.Committed = true
+is_committed _ = false
+
+abbrev pub some_writes : List Write → Bool
+some_writes [] = false
+some_writes (w ∷ ws) = true
+
+abbrev pub committed_as : Record → List Write → List Commit
+committed_as r ws =
+    cond (is_committed r.ending && some_writes ws) (record { label = r.label; mem = r.drew_mem; store = r.drew_store; writes = ws } ∷ []) []
+
+-- what a record adds to the list: where it committed and wrote, one commit with its label, its numbers and what its writes come to
+abbrev pub commits_of : List Table → Tables → List Commit → ℕ → Record → List Commit
+commits_of catalog opening order p r = committed_as r (net (written catalog (state opening (take p order)) r.said))
