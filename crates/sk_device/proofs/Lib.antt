@@ -1,0 +1,4 @@
+pub mod Moments
+pub mod Bytes
+mod Undo
+mod Histories
