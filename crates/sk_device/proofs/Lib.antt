@@ -2,3 +2,6 @@ pub mod Moments
 pub mod Bytes
 mod Undo
 mod Histories
+mod Mixes
+mod Tears
+mod Stops

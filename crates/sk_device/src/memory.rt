@@ -41,7 +41,7 @@ impl MemDevice {
     ghost use Rattle.std.specs.Prelude.{ℕ};
     ghost use Rattle.sk_outside.specs.Calls.{made_of, fails_of};
     ghost use Rattle.sk_device.specs.Disk.{Puts};
-    ghost use Rattle.sk_device.specs.Memory.{memory_image, memory_disk, changes_of, looks_of, faults_of, starved_of, IsSure};
+    ghost use Rattle.sk_device.specs.Memory.{memory_image, memory_disk, changes_of, looks_of, faults_of, starved_of, IsSure, CountsChange};
 
     /// Empty files. Each list numbers, from 1, the calls that fail: of `write` and `sync` together,
     /// and of `len` and `read` together.
@@ -128,6 +128,19 @@ impl MemDevice {
         ensures { result ≡ starved_of self.now }
     {
         self.starved
+    }
+
+    /// Counts a write or a sync that found no memory before it began.
+    pub(crate) fn starve(&mut self) -> Failed
+        ensures counts { CountsChange self.old self.new }
+        ensures starved { Rose (starved_of self.old) (starved_of self.new) }
+        ensures later { faults_of self.old ≤ faults_of self.new }
+        ensures rose { Rose (faults_of self.old) (faults_of self.new) }
+        ensures same { memory_image self.new ≡ memory_image self.old }
+    {
+        self.changes.next_fails();
+        self.starved = self.starved.saturating_add(1);
+        fail(&mut self.faults)
     }
 }
 

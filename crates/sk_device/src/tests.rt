@@ -39,6 +39,55 @@ fn a_listed_call_fails(rt: HostRuntime) -> Result<(), Fail> {
     Ok(())
 }
 
+// Two writes that no sync follows: over bytes that are settled, and past the end of an empty file.
+fn two_unsynced(alloc: Global, changes: &[u64]) -> Result<TearingDevice, Fail> {
+    let mut device = TearingDevice::new(alloc, changes.to_vec(alloc)?, Vec::new(alloc));
+    write_synced(&mut device, 1, 0, b"abcd")?;
+    device.write(1, 0, b"WXYZ")?;
+    device.write(2, 3, b"gap")?;
+    Ok(device)
+}
+
+#[test]
+fn a_stop_leaves_old_or_new_or_mixed_bytes(rt: HostRuntime) -> Result<(), Fail> {
+    let alloc = rt.alloc();
+    let old = two_unsynced(alloc, &[])?.stopped(&[])?;
+    assert_eq!(rt; old.bytes(1), b"abcd".as_slice());
+    assert_eq!(rt; old.bytes(2), b"".as_slice());
+    let mixed = two_unsynced(alloc, &[])?.stopped(&[2, 1])?;
+    assert_eq!(rt; mixed.bytes(1), b"WXcd".as_slice());
+    assert_eq!(rt; mixed.bytes(2), b"\0\0\0g".as_slice());
+    let new = two_unsynced(alloc, &[])?.stopped(&[4, 9])?;
+    assert_eq!(rt; new.bytes(1), b"WXYZ".as_slice());
+    assert_eq!(rt; new.bytes(2), b"\0\0\0gap".as_slice());
+    Ok(())
+}
+
+#[test]
+fn a_sync_settles_its_file_alone(rt: HostRuntime) -> Result<(), Fail> {
+    let alloc = rt.alloc();
+    let mut device = two_unsynced(alloc, &[])?;
+    device.sync(1)?;
+    assert_eq!(rt; device.bytes(2), b"\0\0\0gap".as_slice());
+    let settled = device.stopped(&[1])?;
+    assert_eq!(rt; settled.bytes(1), b"WXYZ".as_slice());
+    assert_eq!(rt; settled.bytes(2), b"\0\0\0g".as_slice());
+    let mut failing = two_unsynced(alloc, &[5])?;
+    assert!(rt; failing.sync(1).is_err());
+    assert_eq!(rt; failing.starved(), 0);
+    assert_eq!(rt; failing.stopped(&[1])?.bytes(1), b"Wbcd".as_slice());
+    Ok(())
+}
+
+#[test]
+fn a_tearing_device_reads_what_is_written(rt: HostRuntime) -> Result<(), Fail> {
+    let alloc = rt.alloc();
+    round_trip(
+        &rt,
+        &mut TearingDevice::new(alloc, Vec::new(alloc), Vec::new(alloc)),
+    )
+}
+
 #[test]
 fn files_keep_what_is_written(rt: HostRuntime) -> Result<(), Fail> {
     let dir = std::env::temp_dir(&rt)?;
