@@ -8,7 +8,7 @@ use Rattle.std.proofs.lemmas.List.{take-append-le, take-replicate, take_at, take
 use Rattle.std.proofs.Math.Seq.{take-append-add}
 use Rattle.sk_device.specs.declared.change.Written.{Written}
 use Rattle.sk_device.specs.Disk.{Image, overwritten, TornBytes, Torn, Puts}
-use Rattle.sk_device.specs.Changes.{IsMixed, AreMixed, rewritten}
+use Rattle.sk_device.specs.Changes.{IsMixed, AreMixed, rewritten, front_rewritten}
 use Rattle.sk_device.proofs.Bytes.{torn_by}
 
 -- lists that read the same at each place are equal
@@ -154,14 +154,44 @@ module _ (old bytes : List ℕ) (at count : ℕ) where
         ∙ get_drop (at + length front) j old ∙ ap (λ (n : ℕ). slice_get old n) is)
   ]
 
-module _ (w : Written) (count : ℕ) (was now : Image) (puts : Puts w.file (overwritten (was w.file) w.at (take count w.bytes.items)) was now) where
-  here : IsMixed (was w.file) (rewritten w was w.file) (now w.file)
-  here =
-      subst (λ (l : List ℕ). IsMixed (was w.file) l (now w.file)) (sym (rewritten_here w was))
-      (subst (λ (l : List ℕ). IsMixed (was w.file) (overwritten (was w.file) w.at w.bytes.items) l) (sym puts.this) (front_mixed (was w.file) w.bytes.items w.at count))
+module _ (w : Written) (count : ℕ) (was : Image) where
+  abbrev part : List ℕ
+  part = take count w.bytes.items
 
-  pub front_put : AreMixed was (rewritten w was) now
-  front_put file k = elim (cases_eq file w.file) [
-    | inl is ↦ subst (λ (f : ℕ). (slice_get (now f) k ≡ slice_get (was f) k) ⊎ (slice_get (now f) k ≡ slice_get (rewritten w was f) k)) (sym is) (here k)
-    | inr ne ↦ inl (ap (λ (l : List ℕ). slice_get l k) (puts.others file ne))
+  front_there : (other : ℕ) → other ≢ w.file → front_rewritten w count was other ≡ was other
+  front_there other ne = grind (arith, nat_tests)
+
+  front_none : length part ≡ 0 → front_rewritten w count was w.file ≡ was w.file
+  front_none none = grind (arith, nat_tests)
+
+  front_some : length part ≢ 0 → front_rewritten w count was w.file ≡ overwritten (was w.file) w.at part
+  front_some some = grind (arith, nat_tests)
+
+  here : IsMixed (was w.file) (overwritten (was w.file) w.at w.bytes.items) (front_rewritten w count was w.file)
+  here = elim (cases_eq (length part) 0) [
+    | inl none ↦ λ k. inl (ap (λ (l : List ℕ). slice_get l k) (front_none none))
+    | inr some ↦
+        subst (λ (l : List ℕ). IsMixed (was w.file) (overwritten (was w.file) w.at w.bytes.items) l) (sym (front_some some)) (front_mixed (was w.file) w.bytes.items w.at count)
+  ]
+
+  -- a front part of a write leaves a mix
+  pub fronts_mixed : AreMixed was (rewritten w was) (front_rewritten w count was)
+  fronts_mixed file k = elim (cases_eq file w.file) [
+    | inl is ↦
+        let there = subst (λ (l : List ℕ). IsMixed (was w.file) l (front_rewritten w count was w.file)) (sym (rewritten_here w was)) here in
+        subst (λ (f : ℕ). (slice_get (front_rewritten w count was f) k ≡ slice_get (was f) k) ⊎ (slice_get (front_rewritten w count was f) k ≡ slice_get (rewritten w was f) k)) (sym is) (there k)
+    | inr ne ↦ inl (ap (λ (l : List ℕ). slice_get l k) (front_there file ne))
+  ]
+
+  -- the write of the front part that is made again, or none
+  pub front_made : (now : Image) → length part ≢ 0 → Puts w.file (overwritten (was w.file) w.at part) was now → (file : ℕ) → now file ≡ front_rewritten w count was file
+  front_made now some puts file = elim (cases_eq file w.file) [
+    | inl is ↦ subst (λ (f : ℕ). now f ≡ front_rewritten w count was f) (sym is) (puts.this ∙ sym (front_some some))
+    | inr ne ↦ puts.others file ne ∙ sym (front_there file ne)
+  ]
+
+  pub front_left : length part ≡ 0 → (file : ℕ) → was file ≡ front_rewritten w count was file
+  front_left none file = elim (cases_eq file w.file) [
+    | inl is ↦ subst (λ (f : ℕ). was f ≡ front_rewritten w count was f) (sym is) (sym (front_none none))
+    | inr ne ↦ sym (front_there file ne)
   ]

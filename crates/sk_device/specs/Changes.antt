@@ -1,5 +1,6 @@
 -- The writes and syncs that were done, the last one first: what reads give after them, and what a stop may leave.
-use Rattle.std.specs.Prelude.{◌≡◌, ◌⊎◌, ◌==◌, ℕ, ◌≤◌, List, [], ◌∷◌, length, slice_get, if◌then◌else◌, refl, Bool, false}
+use Rattle.std.specs.Prelude.{◌≡◌, ◌⊎◌, ◌==◌, ℕ, ◌≤◌, List, [], ◌∷◌, length, take, drop, slice_get, slice_index, if◌then◌else◌, refl, Bool, false}
+use Rattle.std.specs.List.{list_any}
 use Rattle.std.proofs.Math.Nat.{not-suc-le_self}
 use mathlib.Core.Logic.{inl, inr}
 use Rattle.sk_device.specs.declared.change.Change.{Change}
@@ -44,6 +45,18 @@ Remains (Synced file ∷ before) image = Remains before image × (image file ≡
 abbrev pub Remained : ℕ → List Change → Image → Type 0
 Remained t [] image = Remains [] image
 Remained t (change ∷ before) image = Remains (change ∷ before) image ⊎ ((t ≤ length before) × Remained t before image)
+
+-- an image after the first bytes of a write, as many as this, or without it where that is none
+abbrev pub front_rewritten : Written → ℕ → Image → Image
+front_rewritten w count was file =
+    if file == w.file then if length (take count w.bytes.items) == 0 then was file else overwritten (was file) w.at (take count w.bytes.items) else was file
+
+-- The image after these changes, the first one first, and a stop: a write that is followed by a sync of its file stands whole. Of each other one as many bytes stand as the next choice says.
+abbrev pub left_by : List Change → List ℕ → Image → Image
+left_by [] choices was = was
+left_by (Wrote w ∷ later) choices was =
+    if list_any (syncs w.file) later then left_by later choices (rewritten w was) else left_by later (drop 1 choices) (front_rewritten w (slice_index choices 0) was)
+left_by (Synced file ∷ later) choices was = left_by later choices was
 
 pub shown_remains : (changes : List Change) → Remains changes (shown changes)
 shown_remains [] = refl

@@ -6,9 +6,13 @@ use Rattle.sk_device.specs.declared.tearing.TearingDevice.{TearingDevice}
 use Rattle.sk_device.specs.Disk.{Disk}
 use Rattle.sk_device.specs.Changes.{shown, Remains, Remained, shown_remains, counts_since, only_since}
 
--- the writes and syncs that were done, the last one first
+-- the writes and syncs that were done, the first one first
+abbrev pub log_of : TearingDevice → List Change
+log_of device = device.log.items
+
+-- the same, the last one first
 abbrev pub changes_made : TearingDevice → List Change
-changes_made device = reverse device.log.items
+changes_made device = reverse (log_of device)
 
 -- its files with their lists of failing calls
 abbrev pub memory_of : TearingDevice → MemDevice

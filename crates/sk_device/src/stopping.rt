@@ -1,7 +1,7 @@
 //! What a stop leaves of writes and syncs that were done.
-ghost use Rattle.std.specs.Prelude.{◌≡◌, ℕ, reverse, take, IfOk, OnOk};
+ghost use Rattle.std.specs.Prelude.{◌≡◌, ℕ, reverse, take, drop, slice_index, IfOk, OnOk};
 ghost use Rattle.std.specs.List.{list_any};
-ghost use Rattle.sk_device.specs.Changes.{syncs, rewritten, AreMixed, Remains};
+ghost use Rattle.sk_device.specs.Changes.{blank, syncs, rewritten, front_rewritten, left_by, Remains};
 ghost use Rattle.sk_device.specs.Memory.{memory_image, IsSure};
 
 use crate::change::{Change, Written};
@@ -18,10 +18,11 @@ pub(crate) fn remains(
     choices: &[u64],
 ) -> Result<MemDevice, AllocError>
     ensures left { IfOk result (λ device. Remains (reverse log.now) (memory_image device)) }
+    ensures chosen { IfOk result (λ device. memory_image device ≡ left_by log.now choices.now blank) }
     ensures sure { IfOk result (λ device. IsSure device) }
 {
     let mut device = MemDevice::new(alloc, Vec::new(alloc), Vec::new(alloc));
-    let mut choices = choices;
+    let mut open = choices;
     let mut done = 0;
     'changes: while done < log.len() {
         match &log[done] {
@@ -29,8 +30,8 @@ pub(crate) fn remains(
                 if is_synced(&log[done + 1..], write.file) {
                     redo(&mut device, write)?;
                 } else {
-                    redo_front(&mut device, write, first(choices))?;
-                    choices = rest(choices);
+                    redo_front(&mut device, write, first(open))?;
+                    open = rest(open);
                 }
             }
             Change::Synced(_) => {}
@@ -48,12 +49,23 @@ fn is_synced(changes: &[Change], file: u8) -> bool
 }
 
 // The first number, or 0.
-fn first(choices: &[u64]) -> u64 {
-    choices.first().copied().unwrap_or(0)
+fn first(choices: &[u64]) -> u64
+    ensures { result ≡ slice_index choices.now 0 }
+{
+    match choices.first() {
+        Some(choice) => *choice,
+        None => 0,
+    }
 }
 
-fn rest(choices: &[u64]) -> &[u64] {
-    choices.get(1..).unwrap_or(&[])
+// What is behind the first number.
+fn rest(choices: &[u64]) -> &[u64]
+    ensures { result.now ≡ drop 1 choices.now }
+{
+    match choices.split_first() {
+        Some((_, rest)) => rest,
+        None => choices,
+    }
 }
 
 // Makes a write again.
@@ -79,7 +91,7 @@ fn front_of(bytes: &[u8], count: u64) -> &[u8]
 
 // Makes a write of the first `count` bytes of this one again, or none where there are none.
 fn redo_front(device: &mut MemDevice, write: &Written, count: u64) -> Result<(), AllocError>
-    ensures { OnOk result (AreMixed (memory_image device.old) (rewritten write.now (memory_image device.old)) (memory_image device.new)) }
+    ensures { OnOk result ((file : ℕ) → memory_image device.new file ≡ front_rewritten write.now count (memory_image device.old) file) }
 {
     let front = front_of(write.bytes.as_slice(), count);
     if front.is_empty() {

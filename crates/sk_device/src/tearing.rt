@@ -1,6 +1,6 @@
 //! Files in memory, of which a stop may leave the writes since the last syncs torn.
 ghost use Rattle.std.specs.Prelude.{◌≡◌, ◌∷◌, ◌+◌, ◌≤◌, ◌<◌, ℕ, reverse, length, vec_len, vec_capacity, IfOk, OnOk};
-ghost use Rattle.sk_device.specs.Changes.{shown};
+ghost use Rattle.sk_device.specs.Changes.{shown, left_by, blank};
 ghost use Rattle.sk_device.specs.Memory.{memory_image};
 
 use crate::change::{Change, Written};
@@ -26,7 +26,7 @@ impl TearingDevice {
     ghost use Rattle.std.specs.Prelude.{[]};
     ghost use Rattle.sk_outside.specs.Calls.{made_of, fails_of};
     ghost use Rattle.sk_device.specs.Memory.{changes_of, looks_of, faults_of, starved_of, IsSure};
-    ghost use Rattle.sk_device.specs.Tearing.{memory_of, tearing_disk};
+    ghost use Rattle.sk_device.specs.Tearing.{log_of, memory_of, tearing_disk};
 
     /// Empty files. Each list numbers, from 1, the calls that fail: of `write` and `sync` together,
     /// and of `len` and `read` together.
@@ -61,6 +61,7 @@ impl TearingDevice {
     /// length stands for all of it. Where no byte of a write stands, its gap is not there either.
     pub fn stopped(self, choices: &[u64]) -> Result<MemDevice, AllocError>
         ensures left { IfOk result (λ device. (tearing_disk).may_leave self (memory_image device)) }
+        ensures chosen { IfOk result (λ device. memory_image device ≡ left_by (log_of self) choices.now blank) }
         ensures sure { IfOk result (λ device. IsSure device) }
     {
         let TearingDevice {
