@@ -47,6 +47,7 @@ impl MemDevice {
     /// and of `len` and `read` together.
     pub fn new(alloc: Global, changes: Vec<u64>, looks: Vec<u64>) -> Self
         ensures empty { (file : ℕ) → memory_image result file ≡ [] }
+        ensures anew { (memory_disk).moment result ≡ 0 }
         ensures changes { fails_of (changes_of result) ≡ changes.items }
         ensures looks { fails_of (looks_of result) ≡ looks.items }
         ensures changed { made_of (changes_of result) ≡ 0 }

@@ -26,12 +26,15 @@ impl TearingDevice {
     ghost use Rattle.std.specs.Prelude.{[]};
     ghost use Rattle.sk_outside.specs.Calls.{made_of, fails_of};
     ghost use Rattle.sk_device.specs.Memory.{changes_of, looks_of, faults_of, starved_of, IsSure};
+    ghost use Rattle.sk_device.specs.Disk.{IsSettled};
     ghost use Rattle.sk_device.specs.Tearing.{log_of, memory_of, tearing_disk};
 
     /// Empty files. Each list numbers, from 1, the calls that fail: of `write` and `sync` together,
     /// and of `len` and `read` together.
     pub fn new(alloc: Global, changes: Vec<u64>, looks: Vec<u64>) -> Self
         ensures empty { (file : ℕ) → (tearing_disk).seen result file ≡ [] }
+        ensures settled { (file : ℕ) → IsSettled tearing_disk result file }
+        ensures anew { (tearing_disk).moment result ≡ 0 }
         ensures changes { fails_of (changes_of (memory_of result)) ≡ changes.items }
         ensures looks { fails_of (looks_of (memory_of result)) ≡ looks.items }
         ensures changed { made_of (changes_of (memory_of result)) ≡ 0 }
