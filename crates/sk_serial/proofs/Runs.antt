@@ -26,7 +26,7 @@ use Rattle.sk_model.specs.Records.{Told, written, after_said, writes_said, commi
 use Rattle.sk_serial.specs.declared.form.Saying.{Saying}
 use Rattle.sk_serial.specs.declared.form.Saying.TheVariants as saying
 use Rattle.sk_serial.specs.Playing.{id, condition, Entries, entry_at, with_entry, plain_row, plain_write, plain_said, plain_reply, insert_answer, inserted, rows_found, rows_after, rows_behind, said_of, statement_of, catalog_of, first_label, order_of, record_of, none_left, transaction_of, played_of}
-use Rattle.sk_serial.specs.Played.{IsReply, Answered, IsPlayed}
+use Rattle.sk_serial.specs.Played.{IsReply, Answered, IsPlayed, some_commit}
 use Rattle.sk_serial.proofs.OneTable.{put_shown, find_shown, shown, value_at}
 
 pub int_like : (a b : ℤ) → value_cmp (value.Int a) (value.Int b) ≡ int_cmp a b
@@ -199,13 +199,20 @@ one_transaction name lines ended =
       fresh = (((λ same less. absurd (omega arith)), tt), tt);
     }
 
+listed_where : (rows : Entries) (wrote : Bool) → some_commit (order_of rows wrote) ≡ wrote
+listed_where rows true = refl
+listed_where rows false = refl
+
 -- what the lines come to is a run of them over one database
 pub is_played : (table : Option (List ℕ)) (lines : List Saying) (ended : Bool) → IsPlayed (record { table = table; lines = lines; ended = ended }) (played_of table lines ended)
-is_played None lines ended = record { statements = refl; replies = tt; places = refl; one = record { explained = tt; listed = refl; first_wins = tt; fresh = tt } }
-is_played (Some name) [] ended = record { statements = refl; replies = tt; places = refl; one = record { explained = tt; listed = refl; first_wins = tt; fresh = tt } }
+is_played None lines ended = record { statements = refl; replies = tt; transactions = refl; places = refl; one = record { explained = tt; listed = refl; first_wins = tt; fresh = tt } }
+is_played (Some name) [] ended = record { statements = refl; replies = tt; transactions = refl; places = refl; one = record { explained = tt; listed = refl; first_wins = tt; fresh = tt } }
 is_played (Some name) (s ∷ ss) ended = record {
   statements = statements_are name [] (s ∷ ss);
   replies = answered name [] (s ∷ ss);
+  transactions =
+    let rows = rows_behind [] (s ∷ ss) in
+    ap (λ (wrote : Bool). record_of (said_of name [] (s ∷ ss)) ended wrote ∷ []) (sym (listed_where rows (ended && not (none_left rows))));
   places = refl;
   one = one_transaction name (s ∷ ss) ended;
 }
