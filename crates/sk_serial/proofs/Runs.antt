@@ -211,8 +211,8 @@ is_played (Some name) (s ∷ ss) ended = record {
   statements = statements_are name [] (s ∷ ss);
   replies = answered name [] (s ∷ ss);
   transactions =
-    let rows = rows_behind [] (s ∷ ss) in
-    ap (λ (wrote : Bool). record_of (said_of name [] (s ∷ ss)) ended wrote ∷ []) (sym (listed_where rows (ended && not (none_left rows))));
+      let rows = rows_behind [] (s ∷ ss) in
+      ap (λ (wrote : Bool). record_of (said_of name [] (s ∷ ss)) ended wrote ∷ []) (sym (listed_where rows (ended && not (none_left rows))));
   places = refl;
   one = one_transaction name (s ∷ ss) ended;
 }
