@@ -1,0 +1,5 @@
+pub mod Points
+pub mod Weave
+pub mod Woven
+pub mod Runs
+pub mod Laws

@@ -1,0 +1,58 @@
+//! Laws of points and of woven lists. Each function has one as its contract, and does nothing.
+
+ghost use Rattle.sk_weave.specs.Laws.{StaircaseGrows, SelectionStays, WordsRise, WordsAreRead, PickIsPair, PairStays, PairSplits, ListHasAll, PairHolds, AloneHolds, MergedByTable};
+
+/// A point that can follow the last one keeps the staircase.
+pub fn staircase_grows()
+    ensures { StaircaseGrows }
+{}
+
+/// A selection keeps the staircase.
+pub fn selection_stays()
+    ensures { SelectionStays }
+{}
+
+/// Words are in the order of their points.
+pub fn words_rise()
+    ensures { WordsRise }
+{}
+
+/// A word has its point.
+pub fn words_are_read()
+    ensures { WordsAreRead }
+{}
+
+/// A selection picks a pair of snapshots.
+pub fn pick_is_pair()
+    ensures { PickIsPair }
+{}
+
+/// A pair of snapshots stays one when points are appended.
+pub fn pair_stays()
+    ensures { PairStays }
+{}
+
+/// At a pair of snapshots the woven list splits in two: the commits before its place are within both snapshots, and the others past both.
+pub fn pair_splits()
+    ensures { PairSplits }
+{}
+
+/// The woven list has the commits of each engine, in the order of their numbers, and with what they wrote there.
+pub fn list_has_all()
+    ensures { ListHasAll }
+{}
+
+/// The prefix at a pair of snapshots holds exactly the commits of each engine up to its snapshot.
+pub fn pair_holds()
+    ensures { PairHolds }
+{}
+
+/// The prefix at one engine's snapshot alone holds exactly that engine's commits up to it.
+pub fn alone_holds()
+    ensures { AloneHolds }
+{}
+
+/// The writes of a commit over both engines stand by table.
+pub fn merged_by_table()
+    ensures { MergedByTable }
+{}
