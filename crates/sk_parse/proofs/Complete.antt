@@ -94,7 +94,7 @@ shrinks : (p : Parser Expr) (D : List Word → Expr → Type 0) → Sound p D �
 shrinks p D sound i r x is = let s = sound i r x is in omega (arith, length-append s.0 r, ap length s.1)
 
 -- as many turns as there are words are enough
-fuel : (ops : Word → Option Op) (p : Parser Expr) → ((i r : Input) (x : Expr) → Gave (p i) x r → length r ≤ length i)
+pub fuel : (ops : Word → Option Op) (p : Parser Expr) → ((i r : Input) (x : Expr) → Gave (p i) x r → length r ≤ length i)
     → (n m : ℕ) (x : Expr) (i : Input) → length i ≤ n → length i ≤ m → more ops p n x i ≡ more ops p m x i
 unfolding more
 fuel ops p short zero zero x i a b = refl

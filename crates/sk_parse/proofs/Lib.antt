@@ -1,6 +1,7 @@
 pub mod Complete
 pub mod CompleteStatement
 pub mod Levels
+pub mod Local
 pub mod Pinned
 pub mod Prints
 pub mod Said
