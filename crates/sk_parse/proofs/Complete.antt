@@ -24,23 +24,23 @@ use Rattle.sk_parse.proofs.SoundExpr.{sound_operand, sound_expr}
 
 -- ---- where a rule ends: no operator follows that binds as tightly
 
-abbrev None_at : (Word → Option Op) → Input → Type 0
+abbrev pub None_at : (Word → Option Op) → Input → Type 0
 None_at ops r = found_by ops (first r) ≡ None
 
-abbrev EndsProd : Input → Type 0
+abbrev pub EndsProd : Input → Type 0
 EndsProd r = Unit {0} × None_at (grouping level.Prod) r
 
-abbrev EndsSum : Input → Type 0
+abbrev pub EndsSum : Input → Type 0
 EndsSum r = EndsProd r × None_at (grouping level.Sum) r
 
-abbrev EndsComp : Input → Type 0
+abbrev pub EndsComp : Input → Type 0
 EndsComp r = EndsSum r × None_at comparison r
 
-abbrev EndsAnd : Input → Type 0
+abbrev pub EndsAnd : Input → Type 0
 EndsAnd r = EndsComp r × None_at (grouping level.And) r
 
 -- where the operands of a level end
-abbrev Stops : Level → Input → Type 0
+abbrev pub Stops : Level → Input → Type 0
 Stops level.Or r = EndsAnd r
 Stops level.And r = EndsComp r
 Stops level.Sum r = EndsProd r
@@ -94,7 +94,7 @@ shrinks : (p : Parser Expr) (D : List Word → Expr → Type 0) → Sound p D �
 shrinks p D sound i r x is = let s = sound i r x is in omega (arith, length-append s.0 r, ap length s.1)
 
 -- as many turns as there are words are enough
-fuel : (ops : Word → Option Op) (p : Parser Expr) → ((i r : Input) (x : Expr) → Gave (p i) x r → length r ≤ length i)
+pub fuel : (ops : Word → Option Op) (p : Parser Expr) → ((i r : Input) (x : Expr) → Gave (p i) x r → length r ≤ length i)
     → (n m : ℕ) (x : Expr) (i : Input) → length i ≤ n → length i ≤ m → more ops p n x i ≡ more ops p m x i
 unfolding more
 fuel ops p short zero zero x i a b = refl
@@ -241,6 +241,13 @@ complete _ _ _ _ (Derives.atom_name n t is) r = name_read (parens n) t is r
 complete _ _ _ _ (Derives.atom_parens n ws a d) r =
     ap (λ z. atom_over (parens (suc n)) (word.Mark 40 0 ∷ z)) (append_assoc ws (word.Mark 41 0 ∷ []) r)
     ∙ parens_read n ws a r (finish level.Or n _ a (word.Mark 41 0 ∷ r) (complete _ _ _ _ d (word.Mark 41 0 ∷ r)) ((((tt, refl), refl), refl), refl) refl)
+
+-- what may follow an expression
+abbrev pub Ends : Input → Type 0
+Ends r = Stops level.Or r × None_at (grouping level.Or) r
+
+pub expr_read : (ws : List Word) (a : Expr) → Derives (Rule.Chain level.Or) 64 ws a → (r : Input) → Ends r → Gave (chain_at level.Or 64 (ws ++ r)) a r
+expr_read ws a d r ends = finish level.Or 64 (ws ++ r) a r (complete _ _ _ _ d r) ends.0 ends.1
 
 pub derived_is_read : (n : ℕ) (ws : List Word) (a : Expr) → Derives (Rule.Chain level.Or) n ws a → Gave (chain_at level.Or n ws) a []
 derived_is_read n ws a d =

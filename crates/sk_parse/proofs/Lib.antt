@@ -1,9 +1,13 @@
 pub mod Complete
+pub mod CompleteStatement
 pub mod Levels
+pub mod Local
 pub mod Pinned
 pub mod Prints
+pub mod Said
 pub mod Sound
 pub mod SoundExpr
+pub mod SoundStatement
 pub mod Spelling
 pub mod Turns
 pub mod Written

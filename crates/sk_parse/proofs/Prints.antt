@@ -83,7 +83,7 @@ both : (b c : Bool) → (b && c) ≡ true → (b ≡ true) × (c ≡ true)
 both true c is = (refl, is)
 both false c is = absurd (cc)
 
-literal : (v : Value) → is_literal v ≡ true → IsLiteral (literal_words v) v
+pub literal : (v : Value) → is_literal v ≡ true → IsLiteral (literal_words v) v
 unfolding is_text
 literal (value.Int (pos n)) is = IsLiteral.plain (word.Number n) _ (ap (λ b. cond b (Some (value.Int (pos n))) None) is)
 literal (value.Int (negsuc n)) is =

@@ -17,7 +17,7 @@ use Rattle.sk_parse.specs.Rules.{Rule, Derives, operand}
 use Rattle.sk_parse.proofs.Sound.{Gave, Splits, Sound, bind_ok, same, never, either, sound_chained, key_at, mark_at, taken_ok, name_ok, sound_literal}
 
 -- an expected sign was there
-expect_ok : (s : Sign) (i : Input) (u : Unit {0}) (r : Input) → Gave (expect s i) u r → (sees s i ≡ true) × (next i ≡ r)
+pub expect_ok : (s : Sign) (i : Input) (u : Unit {0}) (r : Input) → Gave (expect s i) u r → (sees s i ≡ true) × (next i ≡ r)
 unfolding expect
 expect_ok s i u r is = by (sees s i) refl is
   where

@@ -27,7 +27,8 @@ use Rattle.sk_rows.specs.declared.statement.SetItem.{SetItem}
 use Rattle.sk_rows.specs.declared.statement.Statement.{Statement}
 use Rattle.sk_rows.specs.declared.statement.Statement.TheVariants as st
 use Rattle.sk_parse.specs.Printed.{strength, left_at, right_at, op_word, literal_words, wrapped, print_step, printed, nesting, is_int, is_literal, is_text, spelled_step, can_be_spelled, more_words, listed_words, name_words, set_words, cond_words, shown_words, said_words, is_expression, is_condition, are_some, are_shown, is_set, can_be_printed}
-use Rattle.sk_parse.specs.Spelled.{said_text}
+use Rattle.sk_parse.specs.Spelled.{IsReadAs, said_text}
+use Rattle.sk_parse.proofs.Said.{read_as}
 use Rattle.sk_parse.proofs.Spelling.{is_said}
 
 -- ---- the bytes of a word
@@ -321,6 +322,7 @@ said_behind (st.Delete table c) = joined_behind _ _
 pub record Line (s : Statement) (out : List ℕ) : Type 0 where
   pub line : drop 1 out ≡ joined (said_words s)
   pub printable : ArePrintable (drop 1 out)
+  pub read : IsReadAs (drop 1 out) s
 
 pub of_print : (s : Statement) (out : List ℕ) → can_be_printed s ≡ true → out ≡ said_text s → Line s out
 of_print s out can is =
@@ -329,4 +331,5 @@ of_print s out can is =
     record {
       line = line;
       printable = subst ArePrintable (sym line) (all_printable _ (joined_printable (said_words s) (said_spelled s can)));
+      read = subst (λ z. IsReadAs z s) (sym line) (read_as s can (said_spelled s can));
     }

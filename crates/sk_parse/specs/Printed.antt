@@ -19,6 +19,7 @@ use Rattle.sk_rows.specs.declared.statement.SetItem.{SetItem}
 use Rattle.sk_rows.specs.declared.statement.Statement.{Statement}
 use Rattle.sk_rows.specs.declared.statement.Statement.TheVariants as st
 use Rattle.sk_parse.specs.Grammar.{expr}
+use Rattle.sk_parse.specs.Statements.{whole}
 
 -- The rules are counted from the outermost: 0 expr, 1 conj, 2 neg, 3 comp, 4 sum, 5 prod, 6 atom.
 -- the rule that has the operator
@@ -187,3 +188,7 @@ can_be_printed (st.Insert table values) = is_name table && are_some is_literal v
 can_be_printed (st.Select table columns cond) = is_name table && are_shown columns && is_condition cond
 can_be_printed (st.Update table sets cond) = is_name table && are_some is_set sets && is_condition cond
 can_be_printed (st.Delete table cond) = is_name table && is_condition cond
+
+-- the words that are printed are read as the statement, all of them
+abbrev pub IsSaidBack : Type 0
+IsSaidBack = (s : Statement) → can_be_printed s ≡ true → whole (said_words s) ≡ Ok (s, [])

@@ -1,16 +1,28 @@
-//! What the rules of the grammar are to the parser.
+//! Laws of the words that contracts use. The functions do nothing: their contracts are what is proved.
 
+ghost use Rattle.sk_parse.specs.Places.{IsRefusedRightly};
+ghost use Rattle.sk_parse.specs.Printed.{IsReadBack, IsSaidBack};
 ghost use Rattle.sk_parse.specs.Rules.{IsExact};
-ghost use Rattle.sk_parse.specs.Printed.{IsReadBack};
+ghost use Rattle.sk_parse.specs.Saying.{IsAlone, IsGrammar};
 
-/// Tokens are an expression by the rules exactly where they are read as it.
-#[tactic(auto, using(crate::proofs::Complete::exact))]
-pub fn rules()
-    ensures { IsExact }
+/// Words are an expression or a statement by the grammar exactly where they are read as it, and no words say two
+/// statements.
+#[tactic(auto, using(crate::proofs::Complete::exact, crate::proofs::CompleteStatement::grammar, crate::proofs::Said::alone))]
+pub fn words_are_read_by_the_grammar()
+    ensures expressions { IsExact }
+    ensures statements { IsGrammar }
+    ensures alone { IsAlone }
 {}
 
-/// What is printed of an expression is read as it.
-#[tactic(auto, using(crate::proofs::Prints::read_back))]
-pub fn printed_is_read()
-    ensures { IsReadBack }
+/// No statement of the grammar begins with the words through one that is refused.
+#[tactic(auto, using(crate::proofs::Local::refused_rightly))]
+pub fn words_are_refused_rightly()
+    ensures { IsRefusedRightly }
+{}
+
+/// The words that are printed of an expression or a statement are read as it.
+#[tactic(auto, using(crate::proofs::Prints::read_back, crate::proofs::Said::said_back))]
+pub fn printed_words_are_read()
+    ensures expressions { IsReadBack }
+    ensures statements { IsSaidBack }
 {}

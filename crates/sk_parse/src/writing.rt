@@ -4,6 +4,7 @@ ghost use Rattle.std.specs.Prelude.{◌≡◌, ◌++◌, drop, IfOk, IsTrue, OnO
 ghost use Rattle.sk_lex.specs.Spelling.{joined};
 ghost use Rattle.sk_parse.specs.Printed.{can_be_printed, said_words};
 ghost use Rattle.sk_parse.specs.Spelled as spec;
+ghost use Rattle.sk_parse.specs.Spelled.{IsReadAs};
 
 use crate::printing::{put_expr, put_key, put_literal, put_mark, put_name};
 use sk_lex::Keyword;
@@ -199,6 +200,7 @@ fn without_first(bytes: &[u8]) -> &[u8]
 pub fn print(alloc: Global, statement: &Statement) -> Result<Txt, NoMemory>
     requires { IsTrue (can_be_printed statement.now) }
     ensures text { IfOk result (λ t. t ≡ joined (said_words statement.now)) }
+    ensures read { IfOk result (λ t. IsReadAs t statement.now) }
 {
     let mut out = Vec::new(alloc);
     put_statement(&mut out, statement)?;

@@ -1,7 +1,7 @@
-use Rattle.std.proofs.Common.{◌≡◌, ◌∙◌, drop, ap, sym, subst}
-use Rattle.std.specs.Prelude.{IfOk}
+use Rattle.std.proofs.Common.{◌≡◌, ◌∙◌, List, ℕ, drop, ap, sym, subst}
+use Rattle.std.specs.Prelude.{IfOk, Result, Ok, Err}
 use Rattle.sk_rows.specs.Text.{ArePrintable}
-use Rattle.sk_parse.specs.Spelled.{said_text}
+use Rattle.sk_parse.specs.Spelled.{IsReadAs, said_text}
 use Rattle.sk_parse.proofs.Written.{Line, of_print}
 use Rattle.sk_parse.proofs.writing.print.Goals as goal
 
@@ -12,9 +12,17 @@ from_slice-requires c =
     let same : c.without_first-line.result.now ≡ drop 1 c.put_statement.new.out.items = c.without_first-line.ensures ∙ ap (drop 1) c.as_slice.ensures.value in
     subst ArePrintable (sym same) line.printable
 
+-- what holds of a text holds of the answer that is this text
+of_answer : {E : Type 0} (r : Result (List ℕ) E) (text : List ℕ) (P : List ℕ → Type 0) → P text → IfOk r (λ t. t ≡ text) → IfOk r P
+of_answer (Ok t) text P holds is = subst P (sym is) holds
+of_answer (Err e) text P holds is = tt
+
 pub returns : goal.returns
 returns c =
     let written : c.put_statement.new.out.items ≡ said_text c.args.statement.now = cc (c.in_ok-put_statement.ensures, c.new-out.ensures.items) in
     let line : Line c.args.statement.now c.put_statement.new.out.items = of_print c.args.statement.now c.put_statement.new.out.items c.requires written in
     let same : c.without_first-line.result.now ≡ drop 1 c.put_statement.new.out.items = c.without_first-line.ensures ∙ ap (drop 1) c.as_slice.ensures.value in
-    record { text = subst (λ z. IfOk c.from_slice.result (λ t. t ≡ z)) (same ∙ line.line) c.from_slice.ensures }
+    record {
+      text = subst (λ z. IfOk c.from_slice.result (λ t. t ≡ z)) (same ∙ line.line) c.from_slice.ensures;
+      read = of_answer c.from_slice.result c.without_first-line.result.now (λ t. IsReadAs t c.args.statement.now) (subst (λ z. IsReadAs z c.args.statement.now) (sym same) line.read) c.from_slice.ensures;
+    }
