@@ -84,7 +84,7 @@ comp_stops _ o i at = absurd (cc)
 
 -- ---- turns
 
-more_none : (ops : Word → Option Op) (p : Parser Expr) (n : ℕ) (x : Expr) (r : Input) → None_at ops r → Gave (more ops p n x r) x r
+pub more_none : (ops : Word → Option Op) (p : Parser Expr) (n : ℕ) (x : Expr) (r : Input) → None_at ops r → Gave (more ops p n x r) x r
 unfolding more
 more_none ops p zero x r none = refl
 more_none ops p (suc n) x r none = ap (λ f. more_on p (more ops p n) x f r) none

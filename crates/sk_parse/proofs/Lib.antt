@@ -1,9 +1,13 @@
+pub mod Answered
 pub mod Complete
 pub mod CompleteStatement
 pub mod Levels
 pub mod Local
 pub mod Pinned
 pub mod Prints
+pub mod Reached
+pub mod Reaches
+pub mod ReachesRules
 pub mod Said
 pub mod Sound
 pub mod SoundExpr

@@ -225,7 +225,7 @@ delete_sound i s is =
     let rest = from_sound key.From i (λ t c. st.Delete t c) s is in
     subst (Says (word.Key key.Delete ∷ i)) rest.6 (rest.2, ap (λ z. word.Key key.Delete ∷ z) rest.3, rest.4, rest.5)
 
-said_sound : (ws : List Word) (s : Statement) → Gave (said ws) s [] → Says ws s
+pub said_sound : (ws : List Word) (s : Statement) → Gave (said ws) s [] → Says ws s
 unfolding said
 said_sound [] s is = never _ s [] is
 said_sound (word.Key key.Begin ∷ i) s is = begin_sound i s is

@@ -1,6 +1,5 @@
 //! Laws of the words that contracts use. The functions do nothing: their contracts are what is proved.
 
-ghost use Rattle.sk_parse.specs.Places.{IsRefusedRightly};
 ghost use Rattle.sk_parse.specs.Printed.{IsReadBack, IsSaidBack};
 ghost use Rattle.sk_parse.specs.Rules.{IsExact};
 ghost use Rattle.sk_parse.specs.Saying.{IsAlone, IsGrammar};
@@ -12,12 +11,6 @@ pub fn words_are_read_by_the_grammar()
     ensures expressions { IsExact }
     ensures statements { IsGrammar }
     ensures alone { IsAlone }
-{}
-
-/// No statement of the grammar begins with the words through one that is refused.
-#[tactic(auto, using(crate::proofs::Local::refused_rightly))]
-pub fn words_are_refused_rightly()
-    ensures { IsRefusedRightly }
 {}
 
 /// The words that are printed of an expression or a statement are read as it.

@@ -13,7 +13,7 @@ mod terms;
 mod writing;
 
 pub use fault::ParseFault;
-pub use laws::{printed_words_are_read, words_are_read_by_the_grammar, words_are_refused_rightly};
+pub use laws::{printed_words_are_read, words_are_read_by_the_grammar};
 pub use printable::can_be_printed;
 pub use reading::statement;
 pub use writing::print;

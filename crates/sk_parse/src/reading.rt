@@ -2,6 +2,7 @@
 
 ghost use Rattle.std.specs.Prelude.{◌≡◌, ◌<◌, ◌≤◌, ◌+◌, All};
 ghost use Rattle.sk_parse.specs.Input.{Reads};
+ghost use Rattle.sk_parse.specs.Places.{IsAnswer};
 ghost use Rattle.sk_parse.specs.Statements as spec;
 
 use crate::cursor::{Cursor, Sign};
@@ -187,11 +188,8 @@ fn place(tokens: &[Token], end: u32, left: usize) -> u32
     }
 }
 
-/// The statement that all of the tokens are, or the place of the first that does not fit or passes a limit.
-///
-/// `end` is the length of the line. The place behind the end is answered where the line ends too early.
 #[tactic(auto, unfolding(crate::specs::Statements::statement))]
-pub fn statement(alloc: Global, tokens: &[Token], end: u32) -> Result<Statement, ParseFault>
+fn answer(alloc: Global, tokens: &[Token], end: u32) -> Result<Statement, ParseFault>
     requires short { end < 4294967295 }
     requires before { All (λ t. t.from < end) tokens.now }
     ensures exact { spec.Gives tokens.now end result }
@@ -205,4 +203,18 @@ pub fn statement(alloc: Global, tokens: &[Token], end: u32) -> Result<Statement,
         }),
         Err(Fault::NoMemory) => Err(ParseFault::NoMemory),
     }
+}
+
+/// The statement that all of the tokens are, or the place of the first that does not fit or passes a limit.
+///
+/// `end` is the length of the line. The place behind the end is answered where the line ends too early.
+#[tactic(auto, using(crate::proofs::Answered::answered))]
+pub fn statement(alloc: Global, tokens: &[Token], end: u32) -> Result<Statement, ParseFault>
+    requires short { end < 4294967295 }
+    requires before { All (λ t. t.from < end) tokens.now }
+    ensures exact { spec.Gives tokens.now end result }
+    ensures place { spec.IsPlace end result }
+    ensures grammar { IsAnswer tokens.now end result }
+{
+    answer(alloc, tokens, end)
 }
