@@ -1,7 +1,8 @@
 -- What a record of a transaction promises against the list of commits.
-use Rattle.std.specs.Prelude.{◌≡◌, ℕ, ◌-◌, ◌<◌, ◌≤◌, List, [], ◌∷◌, ◌++◌, Option, Some, None, Bool, true, false, cond, ◌&&◌, take, drop}
+use Rattle.std.specs.Prelude.{◌≡◌, ℕ, ◌-◌, ◌<◌, ◌≤◌, List, [], ◌∷◌, ◌++◌, Option, Some, None, Bool, true, false, cond, ◌==◌, ◌&&◌, take, drop, position, IfSome}
 use Rattle.std.specs.List.{list_any, AllByRecursion}
 use Rattle.sk_rows.specs.declared.table.Table.{Table}
+use Rattle.sk_model.specs.declared.label.Label.{Label}
 use Rattle.sk_model.specs.declared.commit.Write.{Write}
 use Rattle.sk_model.specs.declared.commit.Commit.{Commit}
 use Rattle.sk_model.specs.declared.record.Said.{Said}
@@ -76,3 +77,36 @@ committed_as r ws =
 -- what a record adds to the list: where it committed and wrote, one commit with its label, its numbers and what its writes come to
 abbrev pub commits_of : List Table → Tables → List Commit → ℕ → Record → List Commit
 commits_of catalog opening order p r = committed_as r (net (written catalog (state opening (take p order)) r.said))
+
+abbrev pub same_label : Label → Label → Bool
+same_label x y = (x.session == y.session) && (x.k == y.k)
+
+-- where the commit of this label stands in the list, counted from 0
+abbrev pub own_place : List Commit → Label → Option ℕ
+own_place order label = position (λ c. same_label c.label label) order
+
+-- where the record's commit stands in the list, nothing between the prefix that it read and that place wrote a row that it wrote
+abbrev pub WinsFirst : List Table → Tables → List Commit → ℕ → Record → Type 0
+WinsFirst catalog opening order p r =
+    IfSome (own_place order r.label) (λ q. (p ≤ q) × FirstWins order p q (written catalog (state opening (take p order)) r.said))
+
+-- one place a record, and this holds of each record at its place
+abbrev pub EachAt : (ℕ → Record → Type 0) → List ℕ → List Record → Type 0
+EachAt P [] [] = Unit {0}
+EachAt P [] (r ∷ rs) = ⊥
+EachAt P (p ∷ ps) [] = ⊥
+EachAt P (p ∷ ps) (r ∷ rs) = P p r × EachAt P ps rs
+
+-- what all records add to the list, each at its place
+abbrev pub all_commits : List Table → Tables → List Commit → List ℕ → List Record → List Commit
+all_commits catalog opening order [] rs = []
+all_commits catalog opening order (p ∷ ps) [] = []
+all_commits catalog opening order (p ∷ ps) (r ∷ rs) = commits_of catalog opening order p r ++ all_commits catalog opening order ps rs
+
+-- The promise: these records are of one database with this list of commits. Each record reads one prefix of the list with
+-- its own writes; the list has exactly what committed and wrote; the first committer wins; no session goes back.
+pub record OneDatabase (catalog : List Table) (opening : Tables) (order : List Commit) (places : List ℕ) (records : List Record) : Type 0 where
+  pub explained : EachAt (Explained catalog opening order) places records
+  pub listed : order ≡ all_commits catalog opening order places records
+  pub first_wins : EachAt (WinsFirst catalog opening order) places records
+  pub fresh : Fresh records

@@ -1,12 +1,17 @@
 -- The names of tables and columns.
-use Rattle.std.specs.Prelude.{ℕ, Bool, false, not, ◌&&◌, ◌||◌, ◌==◌, nat_le, List, [], ◌∷◌, length}
+use Rattle.std.specs.Prelude.{ℕ, Bool, false, not, ◌&&◌, ◌||◌, ◌==◌, nat_le, List, [], ◌∷◌, length, codes}
 use Rattle.std.specs.List.{list_all, list_any}
 use Rattle.std.specs.Str.{bytes_eq}
-use Rattle.sk_rows.specs.declared.names.TheConstants.{KEYWORDS}
 
--- a keyword, in lower case
+-- the words of the language, in lower case
+abbrev pub keywords : List (List ℕ)
+keywords =
+    codes "table" ∷ codes "set" ∷ codes "memory" ∷ codes "storage" ∷ codes "int" ∷ codes "text" ∷ codes "bool" ∷ codes "step" ∷ codes "flush" ∷
+    codes "checkpoint" ∷ codes "stop" ∷ codes "begin" ∷ codes "commit" ∷ codes "rollback" ∷ codes "insert" ∷ codes "into" ∷ codes "values" ∷ codes "select" ∷
+    codes "from" ∷ codes "where" ∷ codes "update" ∷ codes "delete" ∷ codes "or" ∷ codes "and" ∷ codes "not" ∷ codes "true" ∷ codes "false" ∷ []
+
 unfoldable pub is_keyword : List ℕ → Bool
-is_keyword text = list_any (λ word. bytes_eq word.now text) KEYWORDS
+is_keyword text = list_any (λ word. bytes_eq word text) keywords
 
 abbrev pub is_digit : ℕ → Bool
 is_digit b = nat_le 48 b && nat_le b 57

@@ -3,11 +3,12 @@
 ghost use Rattle.std.specs.Prelude.{◌≡◌, [], ◌∷◌, ◌++◌, slice_get, position, OnOk, OnErr, IfErr, None};
 ghost use Rattle.std.specs.Option.{option_copied};
 ghost use Rattle.std.specs.Str.{bytes_eq};
-ghost use Rattle.sk_rows.specs.Catalog.{add_fault, IsRefusal, has_column, has_table, are_columns, are_named, has_bool_key};
+ghost use Rattle.sk_rows.specs.Catalog.{add_fault, IsCatalog, IsRefusal, has_column, has_table, are_columns, are_named, has_bool_key};
 
-use crate::list::List;
+use crate::copies::Copies;
+use crate::memory::NoMemory;
 use crate::names::is_name;
-use crate::table::{Column, Table};
+use crate::table::{Column, Table, TableList};
 use crate::text::Txt;
 use crate::value::Sort;
 use std::alloc::Global;
@@ -33,18 +34,19 @@ pub enum CatalogFault {
 /// Contracts see the list of its tables.
 #[derive(Debug, Drop)]
 pub struct Catalog {
-    tables: Vec<Table>,
+    tables: TableList,
 }
 
 impl Model for Catalog {
-    ghost use Rattle.std.specs.Prelude.{List, ◌≤◌, length};
+    ghost use Rattle.std.specs.Prelude.{List};
+    ghost use Rattle.sk_rows.specs.Catalog.{IsCatalog};
     ghost use Rattle.sk_rows.specs.declared.table.Table.{Table as AnyTable};
 
     ghost Value = { List AnyTable };
 
-    ghost view = { λ c. c.tables.items };
+    ghost view = { λ c. c.tables };
 
-    ghost invariant = { λ c. length c.tables.items ≤ 64 };
+    ghost invariant = { λ c. IsCatalog c.tables };
 }
 
 fn has_column(name: &Txt, columns: &[Column]) -> bool
@@ -118,31 +120,31 @@ impl Catalog {
         ensures { result ≡ [] }
     {
         Catalog {
-            tables: Vec::new(alloc),
+            tables: TableList::new(alloc),
         }
     }
 
     /// Adds the table at the end. A refusal hands it back and changes nothing.
-    #[tactic(auto, using(crate::proofs::Tables::few_before))]
     pub fn add(&mut self, table: Table) -> Result<(), (Table, CatalogFault)>
         ensures added { OnOk result ((add_fault self.old table ≡ None) × (self.new ≡ self.old ++ table ∷ [])) }
         ensures refused { IfErr result (λ back. (back.0 ≡ table) × IsRefusal (add_fault self.old table) back.1) }
         ensures unchanged { OnErr result (self.new ≡ self.old) }
     {
-        if let Some(fault) = add_fault(&self.tables, &table) {
+        if let Some(fault) = add_fault(self.tables.as_slice(), &table) {
             return Err((table, fault));
         }
-        match self.tables.push(table) {
-            Ok(()) => Ok(()),
-            Err(e) => Err((e.value, CatalogFault::NoMemory)),
+        if let Err(e) = self.tables.push(table) {
+            return Err((e.value, CatalogFault::NoMemory));
         }
+        Ok(())
     }
 
     /// The place of the table of this name, if there is one.
     pub fn find(&self, name: &Txt) -> Option<u16>
-        ensures { result ≡ position (λ t. bytes_eq t.name name.now) self.now }
+        ensures place { result ≡ position (λ t. bytes_eq t.name name.now) self.now }
+        ensures catalog { IsCatalog self.now }
     {
-        match position_of(&self.tables, name) {
+        match position_of(self.tables.as_slice(), name) {
             Some(at) => Some(at as u16),
             None => None,
         }
@@ -150,8 +152,25 @@ impl Catalog {
 
     /// The table at this place, if there is one.
     pub fn table(&self, index: u16) -> Option<&Table>
-        ensures { option_copied result ≡ slice_get self.now index }
+        ensures value { option_copied result ≡ slice_get self.now index }
+        ensures catalog { IsCatalog self.now }
     {
         self.tables.get(index as usize)
+    }
+
+    /// All tables, in the order of their numbers.
+    pub fn tables(&self) -> &[Table]
+        ensures value { result.now ≡ self.now }
+        ensures catalog { IsCatalog self.now }
+    {
+        self.tables.as_slice()
+    }
+}
+
+impl Copies for Catalog {
+    fn copy(&self, alloc: Global) -> Result<Catalog, NoMemory> {
+        Ok(Catalog {
+            tables: self.tables.copy(alloc)?,
+        })
     }
 }

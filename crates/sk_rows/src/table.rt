@@ -30,6 +30,9 @@ pub struct Table {
     pub columns: ColumnList,
 }
 
+/// Tables, in the order of their numbers.
+pub type TableList = List<Table>;
+
 impl Copies for Column {
     fn copy(&self, alloc: Global) -> Result<Column, NoMemory> {
         Ok(Column {

@@ -1,0 +1,7 @@
+pub mod Moments
+pub mod Bytes
+mod Undo
+mod Histories
+mod Mixes
+mod Tears
+mod Stops

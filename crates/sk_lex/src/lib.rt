@@ -1,0 +1,14 @@
+//! Cuts a line into tokens.
+#![tactic(auto)]
+
+mod front;
+mod laws;
+mod scanning;
+mod token;
+
+pub use laws::printed_words_are_read;
+pub use scanning::{Scanned, Stop, scan, tokens};
+pub use token::{Keyword, LexFault, Token, TokenList, WORDS, Word};
+
+#[cfg(test)]
+mod tests;

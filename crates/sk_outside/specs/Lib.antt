@@ -1,0 +1,5 @@
+pub mod Causes
+pub mod Calls
+pub mod Pieces
+pub mod Memory
+pub mod Streams

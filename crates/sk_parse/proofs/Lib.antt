@@ -1,0 +1,9 @@
+pub mod Complete
+pub mod Levels
+pub mod Pinned
+pub mod Prints
+pub mod Sound
+pub mod SoundExpr
+pub mod Spelling
+pub mod Turns
+pub mod Written

@@ -1,0 +1,179 @@
+-- The text that a run prints: replies in the order of their lines, the list of commits, the transactions.
+use Rattle.std.specs.Prelude.{ℕ, List, [], ◌∷◌, ◌++◌, Option, Some, None, true, false, if◌then◌else◌, ◌==◌, length, codes}
+use Rattle.std.specs.List.{flat_map}
+use Rattle.std.specs.Fmt.{decimal, signed_decimal}
+use Rattle.sk_rows.specs.declared.value.Value.{Value}
+use Rattle.sk_rows.specs.declared.value.Value.TheVariants as value
+use Rattle.sk_model.specs.declared.label.Label.{Label}
+use Rattle.sk_model.specs.declared.engine.EngineName.{EngineName}
+use Rattle.sk_model.specs.declared.engine.EngineName.TheVariants as engine
+use Rattle.sk_model.specs.declared.step.StepName.{StepName}
+use Rattle.sk_model.specs.declared.step.StepName.TheVariants as step
+use Rattle.sk_model.specs.declared.reply.Why.{Why}
+use Rattle.sk_model.specs.declared.reply.Why.TheVariants as why
+use Rattle.sk_model.specs.declared.reply.ErrWord.{ErrWord}
+use Rattle.sk_model.specs.declared.reply.ErrWord.TheVariants as err
+use Rattle.sk_model.specs.declared.reply.Reply.{Reply}
+use Rattle.sk_model.specs.declared.reply.Reply.TheVariants as reply
+use Rattle.sk_model.specs.declared.commit.Commit.{Commit}
+use Rattle.sk_model.specs.declared.point.Point.{Point}
+use Rattle.sk_model.specs.declared.record.TxKind.{TxKind}
+use Rattle.sk_model.specs.declared.record.TxKind.TheVariants as kind
+use Rattle.sk_model.specs.declared.record.Ending.{Ending}
+use Rattle.sk_model.specs.declared.record.Ending.TheVariants as ending
+use Rattle.sk_model.specs.declared.record.Said.{Said}
+use Rattle.sk_model.specs.declared.record.Record.{Record}
+
+-- a number, or `-` where there is none
+abbrev pub number_text : Option ℕ → List ℕ
+number_text None = codes "-"
+number_text (Some n) = decimal n
+
+unfoldable pub two_text : ℕ → ℕ → List ℕ
+two_text a b = decimal a ++ codes " " ++ decimal b
+
+abbrev pub label_text : Label → List ℕ
+label_text label = decimal label.session ++ codes "." ++ decimal label.k
+
+-- a quote stands doubled
+abbrev pub quoted : ℕ → List ℕ
+quoted b = if b == 39 then 39 ∷ 39 ∷ [] else b ∷ []
+
+abbrev pub value_text : Value → List ℕ
+value_text (value.Int n) = signed_decimal n
+value_text (value.Text t) = codes "'" ++ flat_map quoted t ++ codes "'"
+value_text (value.Bool true) = codes "TRUE"
+value_text (value.Bool false) = codes "FALSE"
+
+-- the values after the first of a row
+abbrev pub more_values : List Value → List ℕ
+more_values vs = flat_map (λ v. codes ", " ++ value_text v) vs
+
+abbrev pub row_text : List Value → List ℕ
+row_text [] = []
+row_text (v ∷ vs) = value_text v ++ more_values vs
+
+abbrev pub engine_text : EngineName → List ℕ
+engine_text engine.Mem = codes "memory"
+engine_text engine.Store = codes "storage"
+
+abbrev pub step_text : StepName → List ℕ
+step_text step.CloseMem = codes "close m"
+step_text step.CloseStore = codes "close s"
+step_text step.DrawMem = codes "draw m"
+step_text step.DrawStore = codes "draw s"
+step_text step.Check = codes "check"
+step_text step.StampMem = codes "stamp m"
+step_text step.StampStore = codes "stamp s"
+
+abbrev pub drawn_text : Option ℕ → List ℕ
+drawn_text None = []
+drawn_text (Some n) = codes " " ++ decimal n
+
+abbrev pub why_text : Why → List ℕ
+why_text why.Open = codes "open"
+why_text why.Closed = codes "closed"
+why_text (why.Past n s) = codes "past " ++ decimal n ++ codes " " ++ decimal s
+
+abbrev pub word_text : ErrWord → List ℕ
+word_text err.Committing = codes "committing"
+word_text err.Ended = codes "ended"
+word_text err.InTransaction = codes "intransaction"
+word_text err.NoTransaction = codes "notransaction"
+word_text err.Table = codes "table"
+word_text err.Column = codes "column"
+word_text err.Key = codes "key"
+word_text err.Type = codes "type"
+word_text err.Engine = codes "engine"
+word_text err.Overflow = codes "overflow"
+word_text err.Duplicate = codes "duplicate"
+word_text err.Size = codes "size"
+word_text err.Device = codes "device"
+word_text err.Memory = codes "memory"
+
+unfoldable pub failed_at : Point → List ℕ
+failed_at point = codes "CHECKFAILED " ++ decimal point.a ++ codes " " ++ decimal point.b
+
+-- a reply on one line, which is any but rows
+abbrev pub reply_text : Reply → List ℕ
+reply_text (reply.Began label) = codes "OK " ++ label_text label
+reply_text (reply.Count n) = codes "COUNT " ++ decimal n
+reply_text (reply.Rows rows) = codes "ROWS " ++ decimal (length rows)
+reply_text reply.Committed = codes "COMMITTED"
+reply_text reply.RolledBack = codes "ROLLEDBACK"
+reply_text (reply.Step step drawn) = codes "STEP " ++ step_text step ++ drawn_text drawn
+reply_text (reply.CheckFailed point mem store) =
+    failed_at point ++ codes " drew " ++ two_text mem store
+reply_text (reply.Spent engine) = codes "SPENT " ++ engine_text engine
+reply_text (reply.Conflict by why) = codes "CONFLICT " ++ label_text by ++ codes " " ++ why_text why
+reply_text (reply.Busy by) = codes "BUSY " ++ label_text by
+reply_text (reply.Recycled at) =
+    codes "RECYCLED " ++ decimal at.a ++ codes " " ++ decimal at.oldest.a ++ codes " " ++ decimal at.oldest.b
+reply_text (reply.Old engine snapshot horizon) =
+    codes "OLD " ++ engine_text engine ++ codes " " ++ decimal snapshot ++ codes " " ++ decimal horizon
+reply_text (reply.Refused word) = codes "ERR " ++ word_text word
+
+-- a line of a session
+abbrev pub session_line : ℕ → List ℕ → List ℕ
+session_line session text = decimal session ++ codes ": " ++ text ++ codes "\n"
+
+abbrev pub row_line : ℕ → List Value → List ℕ
+row_line session row = session_line session (codes "ROW " ++ row_text row)
+
+abbrev pub row_lines : ℕ → List (List Value) → List ℕ
+row_lines session rows = flat_map (row_line session) rows
+
+-- the rows of a reply, one line each
+abbrev pub rows_before : ℕ → Reply → List ℕ
+rows_before session (reply.Rows rows) = row_lines session rows
+rows_before session _ = []
+
+abbrev pub reply_lines : ℕ → Reply → List ℕ
+reply_lines session reply = rows_before session reply ++ session_line session (reply_text reply)
+
+abbrev pub said_lines : ℕ → List Said → List ℕ
+said_lines session said = flat_map (λ s. reply_lines session s.reply) said
+
+-- the replies of one transaction
+abbrev pub record_said : Record → List ℕ
+record_said r = said_lines r.label.session r.said
+
+abbrev pub order_line : Commit → List ℕ
+order_line c =
+    codes "ORDER " ++ label_text c.label ++ codes " " ++ number_text c.mem ++ codes " " ++ number_text c.store ++ codes "\n"
+
+abbrev pub kind_text : TxKind → List ℕ
+kind_text kind.Cross = codes "cross"
+kind_text kind.Mem = codes "memory"
+kind_text kind.Store = codes "storage"
+
+abbrev pub ending_text : Ending → List ℕ
+ending_text ending.Open = codes "open"
+ending_text ending.Committed = codes "committed"
+ending_text ending.RolledBack = codes "rolledback"
+ending_text ending.Conflict = codes "conflict"
+ending_text ending.CheckFailed = codes "checkfailed"
+ending_text ending.Recycled = codes "recycled"
+ending_text ending.Old = codes "old"
+ending_text ending.Spent = codes "spent"
+ending_text ending.Device = codes "device"
+ending_text ending.NoMemory = codes "memory"
+
+-- two numbers
+abbrev pub pair_text : Option ℕ → Option ℕ → List ℕ
+pair_text mem store = number_text mem ++ codes " " ++ number_text store
+
+-- the line of a transaction that read a prefix of this length. What it may say of acknowledgement is not built yet.
+abbrev pub record_line : Record → ℕ → List ℕ
+record_line r place =
+    codes "TX " ++ label_text r.label ++ codes " " ++ kind_text r.kind ++ codes " " ++ pair_text r.mem r.store
+    ++ codes " " ++ decimal place ++ codes " " ++ ending_text r.ending ++ codes " " ++ pair_text r.drew_mem r.drew_store ++ codes " -\n"
+
+abbrev pub record_lines : List Record → List ℕ → List ℕ
+record_lines [] places = []
+record_lines (r ∷ rs) [] = []
+record_lines (r ∷ rs) (p ∷ ps) = record_line r p ++ record_lines rs ps
+
+-- the whole text of a run of one session
+abbrev pub report : List Record → List Commit → List ℕ → List ℕ
+report records order places = flat_map record_said records ++ flat_map order_line order ++ record_lines records places

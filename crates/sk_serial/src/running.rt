@@ -1,0 +1,236 @@
+//! One script from bytes to bytes.
+
+ghost use Rattle.std.specs.Prelude.{◌≡◌, ◌↔◌, ◌⊎◌, ◌≤◌, [], map, true, false, IsTrue, IfOk, IsErrOf, IfErr, ℕ, ◌≢◌};
+ghost use Rattle.std.specs.Io.KnownBytes.{Appends};
+ghost use Rattle.std.specs.String.{string_bytes};
+ghost use Rattle.sk_outside.specs.Causes.{Rose};
+ghost use Rattle.sk_outside.specs.Pieces.{AppendsFront, ConsumesAtMost};
+ghost use Rattle.sk_serial.specs.Text as text;
+ghost use Rattle.sk_serial.specs.Words as word;
+ghost use Rattle.sk_serial.specs.Running as spec;
+
+use crate::plain::{PlainFault, PlainScript, read_plain};
+use crate::playing::{Played, play};
+use crate::report::report;
+use crate::words::is_run;
+use sk_model::{CommitList, Outcome, PlaceList, RecordList};
+use sk_outside::{ReadError, Sink, Source, read_whole, write_whole};
+use sk_rows::NoMemory;
+use std::alloc::Global;
+
+/// Why no script was played.
+#[derive(Clone, Copy, Debug, PartialEq, Eq)]
+enum Stop {
+    /// The words are of no written form.
+    Usage,
+    /// This line is the first that departs from the form of a script.
+    Script { line: u32 },
+    /// The source failed.
+    Read,
+    NoMemory,
+}
+
+impl From<NoMemory> for Stop {
+    ghost use Rattle.std.specs.Prelude.{◌≡◌};
+    ghost use Rattle.sk_serial.specs.declared.running.Stop.TheVariants as stop;
+
+    ghost from_gives = { λ _ e. e ≡ stop.NoMemory };
+
+    fn from(_e: NoMemory) -> Stop {
+        Stop::NoMemory
+    }
+}
+
+fn read_script(alloc: Global, bytes: &[u8]) -> Result<PlainScript, Stop>
+    ensures { spec.ReadAs bytes.now result }
+{
+    match read_plain(alloc, bytes) {
+        Ok(script) => Ok(script),
+        Err(PlainFault::Departs { line }) => Err(Stop::Script { line }),
+        Err(PlainFault::NoMemory) => Err(Stop::NoMemory),
+    }
+}
+
+fn play_bytes(alloc: Global, bytes: &[u8]) -> Result<Played, Stop>
+    ensures { spec.PlayedOf bytes.now result }
+{
+    let script = read_script(alloc, bytes)?;
+    match play(alloc, &script) {
+        Ok(played) => Ok(played),
+        Err(NoMemory) => Err(Stop::NoMemory),
+    }
+}
+
+fn read_bytes<S: Source>(alloc: Global, source: &mut S) -> Result<Vec<u8>, Stop>
+    ensures bytes { IfOk result (λ bytes. spec.IsRead (S.left source.old) (S.left source.new) bytes.items) }
+    ensures script { IfErr result spec.IsReadStop }
+    ensures read { IsErrOf result Stop.Read → Rose (S.faults source.old) (S.faults source.new) }
+    ensures within { ConsumesAtMost 16777217 (S.left source.old) (S.left source.new) }
+    ensures later { S.faults source.old ≤ S.faults source.new }
+{
+    match read_whole(alloc, source) {
+        Ok(bytes) => Ok(bytes),
+        Err(ReadError::Failed) => Err(Stop::Read),
+        Err(ReadError::Memory) => Err(Stop::NoMemory),
+    }
+}
+
+/// Reads the script and plays it.
+fn play_source<S: Source>(alloc: Global, source: &mut S) -> Result<Played, Stop>
+    ensures found { spec.Found (S.left source.old) (S.left source.new) result }
+    ensures read { IsErrOf result Stop.Read → Rose (S.faults source.old) (S.faults source.new) }
+    ensures within { ConsumesAtMost 16777217 (S.left source.old) (S.left source.new) }
+    ensures later { S.faults source.old ≤ S.faults source.new }
+{
+    let bytes = read_bytes(alloc, source)?;
+    play_bytes(alloc, &bytes)
+}
+
+/// Writes a text, and says whether all of it was taken.
+fn print<K: Sink>(sink: &mut K, text: &[u8]) -> bool
+    ensures whole { result ≡ true → Appends (K.written sink.old) (K.written sink.new) text.now }
+    ensures part { result ≡ false → AppendsFront (K.written sink.old) (K.written sink.new) text.now × Rose (K.faults sink.old) (K.faults sink.new) }
+    ensures prints { spec.Prints (K.written sink.old) (K.written sink.new) (K.faults sink.old) (K.faults sink.new) text.now }
+{
+    match write_whole(sink, text) {
+        Ok(()) => true,
+        Err(_) => false,
+    }
+}
+
+fn script_text(alloc: Global, line: u32) -> Result<String, NoMemory>
+    ensures { IfOk result (λ text. string_bytes text ≡ spec.script_text line) }
+{
+    Ok(format!(in alloc; "FAULT script {line} 1\n")?)
+}
+
+/// Prints a fault, and gives its status.
+fn stopped<K: Sink>(alloc: Global, stop: Stop, sink: &mut K) -> u8
+    ensures { spec.IsStopped stop result (K.written sink.old) (K.written sink.new) (K.faults sink.old) (K.faults sink.new) }
+{
+    match stop {
+        Stop::Usage => {
+            print(sink, b"FAULT usage\n");
+            2
+        }
+        Stop::Script { line } => match script_text(alloc, line) {
+            Ok(text) => {
+                print(sink, text.as_bytes());
+                3
+            }
+            Err(NoMemory) => no_memory(sink),
+        },
+        Stop::Read => {
+            print(sink, b"FAULT read\n");
+            4
+        }
+        Stop::NoMemory => no_memory(sink),
+    }
+}
+
+fn no_memory<K: Sink>(sink: &mut K) -> u8
+    ensures status { result ≡ 8 }
+    ensures prints { spec.Prints (K.written sink.old) (K.written sink.new) (K.faults sink.old) (K.faults sink.new) spec.memory_text }
+{
+    print(sink, b"FAULT memory\n");
+    8
+}
+
+fn nothing(alloc: Global, status: u8) -> Outcome
+    ensures status { result.status ≡ status }
+    ensures nothing { spec.IsNothing result }
+{
+    Outcome {
+        status,
+        records: RecordList::new(alloc),
+        order: CommitList::new(alloc),
+        prefixes: PlaceList::new(alloc),
+    }
+}
+
+/// Prints a fault, and hands out nothing else.
+fn stop_at<K: Sink>(alloc: Global, stop: Stop, sink: &mut K) -> Outcome
+    ensures printed { spec.IsStopped stop result.status (K.written sink.old) (K.written sink.new) (K.faults sink.old) (K.faults sink.new) }
+    ensures nothing { spec.IsNothing result }
+{
+    let status = stopped(alloc, stop, sink);
+    nothing(alloc, status)
+}
+
+/// Prints what was played, and hands it out.
+fn finish<K: Sink>(alloc: Global, played: Played, sink: &mut K) -> Outcome
+    ensures { spec.IsFinished played result (K.written sink.old) (K.written sink.new) (K.faults sink.old) (K.faults sink.new) }
+{
+    let text = match report(
+        alloc,
+        played.records.as_slice(),
+        played.order.as_slice(),
+        played.places.as_slice(),
+    ) {
+        Ok(text) => text,
+        Err(NoMemory) => return stop_at(alloc, Stop::NoMemory, sink),
+    };
+    let status = if print(sink, text.as_bytes()) { 0 } else { 5 };
+    let Played {
+        records,
+        order,
+        places,
+    } = played;
+    Outcome {
+        status,
+        records,
+        order,
+        prefixes: places,
+    }
+}
+
+fn run<S: Source, K: Sink>(alloc: Global, words: &[String], source: &mut S, sink: &mut K) -> Outcome
+    ensures ran { spec.Ran (word.is_run (map string_bytes words.now)) (S.left source.old) (S.left source.new) (K.written sink.old) (K.written sink.new) (S.faults source.old) (S.faults source.new) (K.faults sink.old) (K.faults sink.new) result }
+    ensures within { ConsumesAtMost 16777217 (S.left source.old) (S.left source.new) }
+{
+    if !is_run(words) {
+        return stop_at(alloc, Stop::Usage, sink);
+    }
+    match play_source(alloc, source) {
+        Ok(played) => finish(alloc, played, sink),
+        Err(stop) => stop_at(alloc, stop, sink),
+    }
+}
+
+/// Plays one script: all that `skdb` does. The words are those behind the program's name, and exactly `run DIR`.
+///
+/// The script is read from the source to its end and played over a plain list of commits; the directory is not touched. The text
+/// goes into the sink by one write at the end, or by more where the sink takes less at once. Statuses: 0 Ok, 2 the words are of no
+/// written form, 3 the script departs from its form, 4 the source failed, 5 the sink failed, 8 want of memory. Statuses 2, 3, 4 and 8
+/// print their one line and hand nothing out.
+pub fn run_script<S: Source, K: Sink>(
+    alloc: Global,
+    words: &[String],
+    source: &mut S,
+    sink: &mut K,
+) -> Outcome
+    // The status is one of six; 2 comes exactly where the words are of no written form.
+    ensures status { spec.is_status result.status ≡ true }
+    ensures usage { (result.status ≡ 2) ↔ (word.is_run (map string_bytes words.now) ≡ false) }
+
+    // A script that departs from its form is refused at its first line that does.
+    ensures script { result.status ≡ 3 → spec.IsScriptFault (S.left source.old) (S.left source.new) (K.written sink.old) (K.written sink.new) (K.faults sink.old) (K.faults sink.new) }
+
+    // The source or the sink failed, and not the run.
+    ensures read { result.status ≡ 4 → Rose (S.faults source.old) (S.faults source.new) × spec.Prints (K.written sink.old) (K.written sink.new) (K.faults sink.old) (K.faults sink.new) spec.read_text }
+    ensures part { result.status ≡ 5 → AppendsFront (K.written sink.old) (K.written sink.new) (spec.outcome_text result) × Rose (K.faults sink.old) (K.faults sink.new) }
+
+    // Whatever else it is, the text is that line, and nothing is handed out.
+    ensures usage_printed { result.status ≡ 2 → spec.Prints (K.written sink.old) (K.written sink.new) (K.faults sink.old) (K.faults sink.new) spec.usage_text }
+    ensures memory { result.status ≡ 8 → spec.Prints (K.written sink.old) (K.written sink.new) (K.faults sink.old) (K.faults sink.new) spec.memory_text }
+    ensures nothing { spec.is_fault result.status ≡ true → spec.IsNothing result }
+
+    // The script was read and is played, as one database with its list of commits; with status 0 all of its text is printed.
+    ensures played { spec.is_fault result.status ≡ false → spec.HasRun (S.left source.old) (S.left source.new) (spec.played_in result) }
+    ensures whole { result.status ≡ 0 → Appends (K.written sink.old) (K.written sink.new) (spec.outcome_text result) }
+
+    // At most so many bytes are taken, whatever it answers.
+    ensures within { ConsumesAtMost 16777217 (S.left source.old) (S.left source.new) }
+{
+    run(alloc, words, source, sink)
+}
