@@ -13,3 +13,4 @@ pub mod Alone
 pub mod Holding
 mod Rows
 pub mod Premises
+pub mod Registers

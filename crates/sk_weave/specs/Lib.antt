@@ -3,3 +3,6 @@ pub mod Weave
 pub mod Woven
 pub mod Runs
 pub mod Laws
+pub mod Registry
+pub mod Promise
+pub mod RegistryLaws

@@ -1,6 +1,7 @@
 //! Laws of points and of woven lists. Each function has one as its contract, and does nothing.
 
 ghost use Rattle.sk_weave.specs.Laws.{StaircaseGrows, SelectionStays, WordsRise, WordsAreRead, PickIsPair, PairStays, PairSplits, ListHasAll, PairHolds, AloneHolds, MergedByTable};
+ghost use Rattle.sk_weave.specs.RegistryLaws.{StartIsSound, StepsAreSound, CallsTakeSteps, SelectedIsPair, RecycledIsRight};
 
 /// A point that can follow the last one keeps the staircase.
 pub fn staircase_grows()
@@ -55,4 +56,29 @@ pub fn alone_holds()
 /// The writes of a commit over both engines stand by table.
 pub fn merged_by_table()
     ensures { MergedByTable }
+{}
+
+/// The first state of a registry is sound.
+pub fn start_is_sound()
+    ensures { StartIsSound }
+{}
+
+/// A right step keeps a state of a registry sound.
+pub fn steps_are_sound()
+    ensures { StepsAreSound }
+{}
+
+/// Each call of a registry takes right steps alone.
+pub fn calls_take_steps()
+    ensures { CallsTakeSteps }
+{}
+
+/// What a registry selects is a pair of its points then.
+pub fn selected_is_pair()
+    ensures { SelectedIsPair }
+{}
+
+/// A selection is refused only where partitions were given up, and the oldest live point is the first of its partition.
+pub fn recycled_is_right()
+    ensures { RecycledIsRight }
 {}

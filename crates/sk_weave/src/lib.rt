@@ -3,20 +3,25 @@
 
 mod answer;
 mod copying;
+mod event;
 mod laws;
 mod packing;
 mod picking;
 mod placing;
+mod registry;
 mod weaving;
 
 pub use answer::{CutFound, DrawFault, Passed, Selected};
+pub use event::Event;
 pub use laws::{
-    alone_holds, list_has_all, merged_by_table, pair_holds, pair_splits, pair_stays, pick_is_pair,
-    selection_stays, staircase_grows, words_are_read, words_rise,
+    alone_holds, calls_take_steps, list_has_all, merged_by_table, pair_holds, pair_splits,
+    pair_stays, pick_is_pair, recycled_is_right, selected_is_pair, selection_stays,
+    staircase_grows, start_is_sound, steps_are_sound, words_are_read, words_rise,
 };
 pub use packing::{pack, unpack};
-pub use picking::pick;
+pub use picking::{before_a, before_b, pick, pick_newest};
 pub use placing::place;
+pub use registry::Registry;
 pub use sk_model::{Point, PointList, Recycled};
 pub use weaving::weave;
 
