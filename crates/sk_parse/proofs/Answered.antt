@@ -1,5 +1,5 @@
 -- What the answer to some tokens says by the grammar.
-use Rattle.std.proofs.Common.{◌≡◌, ◌==◌, ℕ, zero, suc, ◌+◌, ◌-◌, Bool, true, false, cond, List, [], ◌∷◌, ◌++◌, length, length-append, map, take, drop, refl, sym, ap, subst, ◌∙◌, append-nil, arith}
+use Rattle.std.proofs.Common.{◌≡◌, ◌==◌, ℕ, zero, suc, ◌-◌, Bool, true, false, cond, List, [], ◌∷◌, ◌++◌, length, length-append, take, drop, refl, sym, ap, subst, ◌∙◌, append-nil, arith}
 use Rattle.std.specs.Prelude.{Result, Ok, Err}
 use Rattle.std.proofs.Math.Seq.{drop-append_seam, take-append_seam}
 use Rattle.std.proofs.lemmas.Bool.Decides.{nat_tests}
@@ -9,13 +9,13 @@ use Rattle.sk_lex.specs.declared.token.Word.{Word}
 use Rattle.sk_rows.specs.declared.statement.Statement.{Statement}
 use Rattle.sk_parse.specs.declared.fault.ParseFault.{ParseFault}
 use Rattle.sk_parse.specs.declared.fault.ParseFault.TheVariants as fault
-use Rattle.sk_parse.specs.Input.{Input, Outcome, and_then, refuse}
-use Rattle.sk_parse.specs.Places.{BeginStatement, IsAnswer, IsFirstFault, IsRefused, words}
+use Rattle.sk_parse.specs.Input.{Input, Outcome, refuse}
+use Rattle.sk_parse.specs.Places.{IsAnswer, IsFirstFault, IsRefused, words}
 use Rattle.sk_parse.specs.Saying.{Says}
 use Rattle.sk_parse.specs.Statements.{Gives, answer, place, place_of, said, statement, whole}
 use Rattle.sk_parse.proofs.CompleteStatement.{whole_read}
 use Rattle.sk_parse.proofs.Local.{refused_rightly}
-use Rattle.sk_parse.proofs.Reached.{Begins, reached}
+use Rattle.sk_parse.proofs.Reached.{reached}
 use Rattle.sk_parse.proofs.Sound.{Gave, bind_ok, same}
 use Rattle.sk_parse.proofs.SoundStatement.{whole_sound}
 

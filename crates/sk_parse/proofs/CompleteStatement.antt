@@ -1,6 +1,6 @@
 -- What the grammar says is read as it.
-use Rattle.std.proofs.Common.{◌≡◌, ◌≤◌, ◌==◌, ℕ, zero, suc, ◌+◌, Bool, true, false, cond, List, [], ◌∷◌, ◌++◌, length, length-append, refl, sym, ap, subst, ◌∙◌, append_assoc, append-nil, arith, rules, Option, Some, None}
-use Rattle.std.specs.Prelude.{Result, Ok, Err}
+use Rattle.std.proofs.Common.{◌≡◌, ◌≤◌, ◌==◌, ℕ, zero, suc, true, false, cond, List, [], ◌∷◌, ◌++◌, length, length-append, refl, sym, ap, subst, ◌∙◌, append_assoc, append-nil, arith, Option, Some, None}
+use Rattle.std.specs.Prelude.{Ok}
 use Rattle.sk_lex.specs.declared.token.Keyword.TheVariants as key
 use Rattle.sk_lex.specs.declared.token.Word.{Word}
 use Rattle.sk_lex.specs.declared.token.Word.TheVariants as word
@@ -13,12 +13,12 @@ use Rattle.sk_rows.specs.declared.statement.SetItem.{SetItem}
 use Rattle.sk_rows.specs.declared.statement.Statement.{Statement}
 use Rattle.sk_rows.specs.declared.statement.Statement.TheVariants as st
 use Rattle.sk_parse.specs.declared.cursor.Sign.TheVariants as sign
-use Rattle.sk_parse.specs.Input.{Input, Outcome, Parser, and_then, pure, refuse, ◌<$>◌, ◌>>=◌, ◌>>◌, eat, first, next, sees, same_key, after, expect, listed, listed_from, take_some, taken}
-use Rattle.sk_parse.specs.Terms.{value_of, negative_of, name, literal, plain, negative}
+use Rattle.sk_parse.specs.Input.{Input, Parser, and_then, pure, refuse, ◌<$>◌, ◌>>=◌, ◌>>◌, next, sees, same_key, after, expect, listed, listed_from, take_some}
+use Rattle.sk_parse.specs.Terms.{name, literal, plain, negative}
 use Rattle.sk_parse.specs.Grammar.{expr}
 use Rattle.sk_parse.specs.Rules.{IsLiteral}
-use Rattle.sk_parse.specs.Saying.{AreListed, AreMore, AreShown, IsBegun, IsExpr, IsGrammar, IsName, IsSet, IsWhere, Says}
-use Rattle.sk_parse.specs.Statements.{begin, behind, condition, delete, insert, said, select, set_item, shown, update, whole}
+use Rattle.sk_parse.specs.Saying.{AreListed, AreMore, AreShown, IsBegun, IsGrammar, IsName, IsSet, IsWhere, Says}
+use Rattle.sk_parse.specs.Statements.{begin, condition, delete, insert, said, select, set_item, shown, update, whole}
 use Rattle.sk_parse.proofs.Sound.{Gave}
 use Rattle.sk_parse.proofs.Complete.{Ends, derived_is_read, expr_read}
 use Rattle.sk_parse.proofs.SoundStatement.{whole_sound}

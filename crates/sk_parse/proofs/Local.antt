@@ -1,11 +1,10 @@
 -- What a parser answers before a word, or at it, does not look behind that word.
-use Rattle.std.proofs.Common.{◌≡◌, ◌≤◌, ◌==◌, ℕ, zero, suc, ◌+◌, Bool, true, false, cond, List, [], ◌∷◌, ◌++◌, length, length-append, refl, sym, ap, subst, ◌∙◌, append_assoc, append-nil, arith, Option, Some, None, ◌⊎◌, inl, inr}
-use Rattle.std.specs.Prelude.{Result, Ok, Err}
+use Rattle.std.proofs.Common.{◌≡◌, ◌≤◌, ◌==◌, ℕ, zero, suc, ◌+◌, Bool, true, false, cond, List, [], ◌∷◌, ◌++◌, length, length-append, refl, sym, ap, subst, ◌∙◌, arith, Option, Some, None, ◌⊎◌, inl, inr}
+use Rattle.std.specs.Prelude.{Ok, Err}
 use Rattle.std.proofs.lemmas.Bool.{ne_eqb}
 use Rattle.sk_lex.specs.declared.token.Keyword.{Keyword}
 use Rattle.sk_lex.specs.declared.token.Keyword.TheVariants as key
 use Rattle.sk_lex.specs.declared.token.Word.{Word}
-use Rattle.sk_lex.specs.declared.token.Word.TheVariants as word
 use Rattle.sk_rows.specs.declared.expr.Op.{Op}
 use Rattle.sk_rows.specs.declared.expr.Expr.{Expr}
 use Rattle.sk_rows.specs.declared.expr.Expr.TheVariants as e
@@ -15,11 +14,10 @@ use Rattle.sk_rows.specs.declared.statement.Statement.{Statement}
 use Rattle.sk_rows.specs.declared.statement.Statement.TheVariants as st
 use Rattle.sk_parse.specs.declared.cursor.Sign.{Sign}
 use Rattle.sk_parse.specs.declared.cursor.Sign.TheVariants as sign
-use Rattle.sk_parse.specs.declared.terms.Level.{Level}
 use Rattle.sk_parse.specs.declared.terms.Level.TheVariants as level
 use Rattle.sk_parse.specs.Input.{Input, Outcome, Parser, and_then, pure, refuse, ◌<$>◌, ◌>>=◌, ◌>>◌, eat, first, first_key, next, is_at, sees, after, expect, listed, listed_from, take_by, take_some, taken}
 use Rattle.sk_parse.specs.Terms.{name_of, value_of, negative_of, name, literal, plain, negative, grouping, comparison}
-use Rattle.sk_parse.specs.Grammar.{found_by, more_on, more, compare_on, compared_to, chained, is_column, in_parens, atom_over, sum_over, comp_over, expr_over, neg, parens, chain_at, operand_at, expr}
+use Rattle.sk_parse.specs.Grammar.{found_by, more_on, more, compare_on, compared_to, chained, is_column, in_parens, atom_over, sum_over, comp_over, expr_over, neg, expr}
 use Rattle.sk_parse.specs.Statements.{begin, behind, condition, delete, insert, said, said_by, select, set_item, shown, update, whole}
 use Rattle.sk_parse.specs.Saying.{Says}
 use Rattle.sk_parse.proofs.Complete.{fuel}

@@ -1,7 +1,6 @@
 -- Each statement goes on behind the words before one that is refused.
-use Rattle.std.proofs.Common.{◌≡◌, ◌≤◌, ◌==◌, ℕ, zero, suc, ◌+◌, Bool, true, false, cond, List, [], ◌∷◌, ◌++◌, length, length-append, refl, sym, ap, subst, ◌∙◌, append_assoc, append-nil, arith, Option, Some, None, ◌⊎◌, inl, inr}
-use Rattle.std.specs.Prelude.{Result, Ok, Err}
-use Rattle.sk_lex.specs.declared.token.Keyword.{Keyword}
+use Rattle.std.proofs.Common.{◌≡◌, ◌==◌, ℕ, Bool, true, false, cond, List, [], ◌∷◌, ◌++◌, length, refl, sym, ap, subst, ◌∙◌, append-nil, Option, Some, None, ◌⊎◌, inl, inr}
+use Rattle.std.specs.Prelude.{Ok, Err}
 use Rattle.sk_lex.specs.declared.token.Keyword.TheVariants as key
 use Rattle.sk_lex.specs.declared.token.Word.{Word}
 use Rattle.sk_lex.specs.declared.token.Word.TheVariants as word
@@ -11,16 +10,15 @@ use Rattle.sk_rows.specs.declared.statement.Begun.TheVariants as begun
 use Rattle.sk_rows.specs.declared.statement.SetItem.{SetItem}
 use Rattle.sk_rows.specs.declared.statement.Statement.{Statement}
 use Rattle.sk_rows.specs.declared.statement.Statement.TheVariants as st
-use Rattle.sk_parse.specs.declared.cursor.Sign.{Sign}
 use Rattle.sk_parse.specs.declared.cursor.Sign.TheVariants as sign
-use Rattle.sk_parse.specs.Input.{Input, Outcome, Parser, and_then, pure, refuse, ◌<$>◌, ◌>>=◌, ◌>>◌, after, eat, expect, first, first_key, is_at, listed, next, same_key, sees}
+use Rattle.sk_parse.specs.Input.{Input, Outcome, Parser, and_then, pure, refuse, ◌<$>◌, ◌>>=◌, ◌>>◌, after, expect, first, first_key, is_at, listed, next, same_key, sees}
 use Rattle.sk_parse.specs.Terms.{literal, name}
 use Rattle.sk_parse.specs.Grammar.{expr}
 use Rattle.sk_parse.specs.Saying.{Says}
-use Rattle.sk_parse.specs.Statements.{begin, behind, condition, delete, insert, said, said_by, select, set_item, shown, update, whole}
+use Rattle.sk_parse.specs.Statements.{begin, condition, delete, insert, said, said_by, select, set_item, shown, update, whole}
 use Rattle.sk_parse.proofs.Complete.{Ends}
-use Rattle.sk_parse.proofs.Local.{local_begin, local_condition, local_said}
-use Rattle.sk_parse.proofs.Reaches.{Completion, Fills, IsLocal, Kind, KindTail, Rest, Tail, Weak, rest_of, rest_pure, tail_first, weak_first}
+use Rattle.sk_parse.proofs.Local.{local_begin, local_said}
+use Rattle.sk_parse.proofs.Reaches.{Completion, Fills, IsLocal, Kind, Rest, Tail, Weak, rest_of, rest_pure, tail_first, weak_first}
 use Rattle.sk_parse.proofs.ReachesRules.{Anything, NoComma, bind_local, both, chosen, chosen_local, ext, fill_both, fill_expect, fill_expr, fill_listed, fill_literal, fill_mapped, fill_name, fill_tailed, front_is, front_sees, is_chosen, is_eaten, is_pure_local, kind_tail_cond, mapped, next_local, one, some_name, tail_end, tailed, weak_expect, weak_expr, weak_if, weak_listed, weak_literal, weak_name, weak_nothing}
 use Rattle.sk_parse.proofs.Sound.{Gave, bind_ok, same}
 use Rattle.sk_parse.proofs.SoundStatement.{said_sound}

@@ -1,18 +1,9 @@
 -- The words before one that is refused begin a statement.
-use Rattle.std.proofs.Common.{◌≡◌, ◌≤◌, ◌==◌, ℕ, zero, suc, ◌+◌, Bool, true, false, cond, ◌&&◌, List, [], ◌∷◌, ◌++◌, length, length-append, refl, sym, ap, subst, ◌∙◌, append_assoc, append-nil, arith, codes, Option, Some, None, ◌⊎◌, inl, inr}
-use Rattle.std.specs.Prelude.{Result, Ok, Err}
+use Rattle.std.proofs.Common.{◌≡◌, ℕ, List, [], ◌∷◌, ◌++◌, length, length-append, refl, sym, ap, subst, ◌∙◌, append_assoc, arith, Option, Some, None, ◌⊎◌, inl, inr}
+use Rattle.std.specs.Prelude.{Ok, Err}
 use Rattle.std.proofs.lemmas.List.{append_cancel_right}
-use Rattle.sk_lex.specs.declared.token.Keyword.{Keyword}
-use Rattle.sk_lex.specs.declared.token.Keyword.TheVariants as key
 use Rattle.sk_lex.specs.declared.token.Word.{Word}
-use Rattle.sk_lex.specs.declared.token.Word.TheVariants as word
-use Rattle.sk_rows.specs.declared.expr.Op.{Op}
-use Rattle.sk_rows.specs.declared.expr.Expr.{Expr}
-use Rattle.sk_rows.specs.declared.expr.Expr.TheVariants as e
-use Rattle.sk_rows.specs.declared.statement.Statement.{Statement}
-use Rattle.sk_parse.specs.declared.cursor.Sign.{Sign}
-use Rattle.sk_parse.specs.declared.cursor.Sign.TheVariants as sign
-use Rattle.sk_parse.specs.Input.{Input, Outcome, Parser, and_then, pure, refuse, ◌<$>◌, ◌>>=◌, ◌>>◌, first, next}
+use Rattle.sk_parse.specs.Input.{Input, Outcome, Parser, and_then, pure, ◌>>=◌, first}
 use Rattle.sk_parse.proofs.Local.{Agree, Local}
 use Rattle.sk_parse.proofs.Sound.{Gave, bind_ok, same}
 

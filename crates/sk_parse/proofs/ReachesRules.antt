@@ -1,28 +1,24 @@
 -- Each rule of the grammar goes on behind the words before one that is refused.
-use Rattle.std.proofs.Common.{◌≡◌, ◌≤◌, ◌==◌, ℕ, zero, suc, ◌+◌, Bool, true, false, cond, List, [], ◌∷◌, ◌++◌, length, length-append, refl, sym, ap, subst, ◌∙◌, append_assoc, append-nil, arith, codes, Option, Some, None, ◌⊎◌, inl, inr}
-use Rattle.std.specs.Prelude.{Result, Ok, Err, nat_le, pos, negsuc}
+use Rattle.std.proofs.Common.{◌≡◌, ◌≤◌, ℕ, zero, suc, ◌+◌, Bool, true, false, cond, List, [], ◌∷◌, ◌++◌, length, length-append, refl, sym, ap, subst, ◌∙◌, arith, codes, Option, Some, None, ◌⊎◌, inl, inr}
+use Rattle.std.specs.Prelude.{Ok, Err, nat_le, pos, negsuc}
 use Rattle.std.proofs.lemmas.Bool.{leb-true, leb-false}
-use Rattle.sk_lex.specs.declared.token.Keyword.{Keyword}
 use Rattle.sk_lex.specs.declared.token.Keyword.TheVariants as key
 use Rattle.sk_lex.specs.declared.token.Word.{Word}
 use Rattle.sk_lex.specs.declared.token.Word.TheVariants as word
 use Rattle.sk_rows.specs.Names.{are_name_bytes, begins_with_digit, has_name_length, is_keyword, is_name}
-use Rattle.sk_rows.specs.declared.value.Value.{Value}
 use Rattle.sk_rows.specs.declared.value.Value.TheVariants as value
 use Rattle.sk_rows.specs.declared.expr.Op.{Op}
 use Rattle.sk_rows.specs.declared.expr.Expr.{Expr}
 use Rattle.sk_rows.specs.declared.expr.Expr.TheVariants as e
 use Rattle.sk_parse.specs.declared.cursor.Sign.{Sign}
 use Rattle.sk_parse.specs.declared.cursor.Sign.TheVariants as sign
-use Rattle.sk_parse.specs.declared.terms.Level.{Level}
 use Rattle.sk_parse.specs.declared.terms.Level.TheVariants as level
 use Rattle.sk_parse.specs.Input.{Input, Outcome, Parser, and_then, pure, refuse, ◌<$>◌, ◌>>=◌, ◌>>◌, after, eat, expect, first, is_at, listed, listed_from, next, same_key, sees, take_by, take_some, taken}
 use Rattle.sk_parse.specs.Terms.{name_of, value_of, negative_of, name, literal, plain, negative, grouping, comparison}
-use Rattle.sk_parse.specs.Grammar.{found_by, more_on, more, compare_on, compared_to, chained, is_column, in_parens, atom_over, sum_over, comp_over, expr_over, neg, parens, chain_at, operand_at, expr}
+use Rattle.sk_parse.specs.Grammar.{found_by, more_on, more, compare_on, compared_to, chained, is_column, in_parens, atom_over, sum_over, comp_over, expr_over, neg, expr}
 use Rattle.sk_parse.proofs.Complete.{Ends, EndsAnd, EndsComp, EndsProd, EndsSum, None_at, fuel, more_none}
-use Rattle.sk_parse.proofs.Levels.{neg_is}
-use Rattle.sk_parse.proofs.Local.{Local, list_fuel, local_atom, local_bind, local_cond, local_chained, local_comp, local_compared, local_eat, local_expect, local_first, local_in_parens, local_listed, local_listed_from, local_literal, local_map, local_more, local_name, local_neg, local_next, local_pure, local_refuse, local_rest, local_sum, local_taken, local_turns, shrinks}
-use Rattle.sk_parse.proofs.Reaches.{Completion, Fills, IsLocal, Kind, KindTail, Rest, Tail, Weak, fills_bind, fills_then, rest_of, rest_pure, tail_first, tail_pure, weak_bind, weak_first, weak_then}
+use Rattle.sk_parse.proofs.Local.{list_fuel, local_bind, local_cond, local_compared, local_first, local_more, local_next, local_pure, local_refuse, local_rest, local_taken, local_turns}
+use Rattle.sk_parse.proofs.Reaches.{Completion, Fills, IsLocal, Kind, KindTail, Tail, Weak, fills_bind, fills_then, rest_of, rest_pure, tail_first, tail_pure, weak_bind, weak_first, weak_then}
 use Rattle.sk_parse.proofs.Sound.{Gave, same}
 
 abbrev pub Anything : Input → Type 0

@@ -1,12 +1,11 @@
 -- The words that are printed of a statement say it, and the tokens of the line are read as it.
-use Rattle.std.proofs.Common.{◌≡◌, ◌≤◌, ℕ, Bool, true, ◌&&◌, List, [], ◌∷◌, ◌++◌, length, map, refl, sym, ap, subst, ◌∙◌, arith, Option, Some, None}
+use Rattle.std.proofs.Common.{◌≡◌, ℕ, Bool, true, ◌&&◌, List, [], ◌∷◌, length, map, refl, sym, ap, ◌∙◌, arith, Option, Some, None}
 use Rattle.std.specs.Prelude.{nat_le, Result, Ok, Err}
 use Rattle.std.specs.List.{list_all}
 use Rattle.std.proofs.lemmas.Bool.{and_parts, leb-true}
 use Rattle.sk_lex.specs.declared.token.LexFault.{LexFault}
 use Rattle.sk_lex.specs.declared.token.Token.{Token}
 use Rattle.sk_lex.specs.declared.token.Word.{Word}
-use Rattle.sk_lex.specs.declared.token.Word.TheVariants as word
 use Rattle.sk_lex.specs.Laws.{words_of}
 use Rattle.sk_lex.specs.Scanning.{tokens}
 use Rattle.sk_lex.specs.Spelling.{can_be_spelled as is_spelled_word, joined}
@@ -25,7 +24,7 @@ use Rattle.sk_parse.specs.Spelled.{IsReadAs}
 use Rattle.sk_parse.specs.Statements.{answer, statement, whole}
 use Rattle.sk_parse.proofs.CompleteStatement.{whole_read}
 use Rattle.sk_parse.proofs.Prints.{is_derived, literal}
-use Rattle.sk_parse.proofs.Sound.{Gave, same}
+use Rattle.sk_parse.proofs.Sound.{same}
 
 says_expr : (x : Expr) → is_expression x ≡ true → IsExpr (printed x 0) x
 unfolding is_expression

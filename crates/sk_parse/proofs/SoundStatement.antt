@@ -1,27 +1,24 @@
 -- What is read as a statement is said by the grammar.
-use Rattle.std.proofs.Common.{◌≡◌, ◌==◌, ℕ, zero, suc, Bool, true, false, cond, List, [], ◌∷◌, ◌++◌, length, refl, sym, ap, subst, ◌∙◌, append_assoc, append-nil, arith, rules, Option, Some, None}
-use Rattle.std.specs.Prelude.{Result, Ok, Err}
+use Rattle.std.proofs.Common.{◌≡◌, ◌==◌, ℕ, zero, suc, Bool, true, false, cond, List, [], ◌∷◌, ◌++◌, length, refl, sym, ap, subst, ◌∙◌, append_assoc, append-nil, arith, Option, Some, None}
+use Rattle.std.specs.Prelude.{Ok}
 use Rattle.std.proofs.lemmas.Bool.Decides.{nat_tests}
 use Rattle.sk_lex.specs.declared.token.Keyword.{Keyword}
 use Rattle.sk_lex.specs.declared.token.Keyword.TheVariants as key
 use Rattle.sk_lex.specs.declared.token.Word.{Word}
 use Rattle.sk_lex.specs.declared.token.Word.TheVariants as word
 use Rattle.sk_rows.specs.Names.{is_name}
-use Rattle.sk_rows.specs.declared.value.Value.{Value}
 use Rattle.sk_rows.specs.declared.expr.Expr.{Expr}
 use Rattle.sk_rows.specs.declared.statement.Begun.TheVariants as begun
 use Rattle.sk_rows.specs.declared.statement.SetItem.{SetItem}
 use Rattle.sk_rows.specs.declared.statement.Statement.{Statement}
 use Rattle.sk_rows.specs.declared.statement.Statement.TheVariants as st
-use Rattle.sk_parse.specs.declared.cursor.Sign.{Sign}
 use Rattle.sk_parse.specs.declared.cursor.Sign.TheVariants as sign
-use Rattle.sk_parse.specs.declared.terms.Level.TheVariants as level
-use Rattle.sk_parse.specs.Input.{Input, Outcome, Parser, and_then, pure, refuse, ◌<$>◌, ◌>>=◌, ◌>>◌, eat, first, first_key, next, sees, after, expect, listed, listed_from, taken}
+use Rattle.sk_parse.specs.Input.{Input, Parser, pure, refuse, ◌<$>◌, ◌>>=◌, ◌>>◌, next, sees, after, expect, listed, listed_from}
 use Rattle.sk_parse.specs.Terms.{name_of, name, literal}
 use Rattle.sk_parse.specs.Grammar.{expr}
-use Rattle.sk_parse.specs.Rules.{Derives, IsLiteral, Rule}
-use Rattle.sk_parse.specs.Saying.{AreListed, AreMore, AreShown, IsBegun, IsExpr, IsName, IsSet, IsWhere, Says}
-use Rattle.sk_parse.specs.Statements.{begin, behind, condition, delete, insert, said, said_by, select, set_item, shown, update, whole}
+use Rattle.sk_parse.specs.Rules.{IsLiteral}
+use Rattle.sk_parse.specs.Saying.{AreListed, AreMore, AreShown, IsExpr, IsName, IsSet, IsWhere, Says}
+use Rattle.sk_parse.specs.Statements.{begin, behind, condition, delete, insert, said, select, set_item, shown, update, whole}
 use Rattle.sk_parse.proofs.Sound.{Gave, bind_ok, same, never, key_at, mark_at, taken_ok, name_ok, sound_literal}
 use Rattle.sk_parse.proofs.SoundExpr.{expect_ok, sound_expr}
 
