@@ -12,7 +12,7 @@ use Rattle.std.proofs.lemmas.Slice.Eq.{bytes_eq-Decides}
 use Rattle.std.proofs.lemmas.List.Sums.{fold-append}
 use Rattle.sk_rows.specs.Values.{value_cmp}
 use Rattle.sk_rows.specs.Typing.{sort_in, sort_step, column_sort, two_sort}
-use Rattle.sk_rows.specs.Evaluation.{◌>>=◌, holds_in, value_in, value_step, column_value, compute, is_true}
+use Rattle.sk_rows.specs.Evaluation.{◌>>=◌, holds_in, value_step, column_value, compute, is_true}
 use Rattle.sk_rows.specs.declared.value.Sort.{Sort}
 use Rattle.sk_rows.specs.declared.value.Sort.TheVariants as sort
 use Rattle.sk_rows.specs.declared.value.Value.{Value}
@@ -21,10 +21,6 @@ use Rattle.sk_rows.specs.declared.faults.TypeFault.{TypeFault}
 use Rattle.sk_rows.specs.declared.faults.ValueFault.{ValueFault}
 use Rattle.sk_rows.specs.declared.value.Value.TheVariants as value
 use Rattle.sk_rows.specs.declared.expr.Op.TheVariants as op
-use Rattle.sk_rows.specs.declared.expr.Expr.{Expr}
-use Rattle.sk_rows.specs.declared.expr.Expr.TheVariants as expr
-use Rattle.sk_rows.specs.declared.expr.Expr.TheOpen.{Expr-F}
-use Rattle.sk_rows.specs.declared.expr.Expr.TheFolds.{fold-roll-Expr}
 use Rattle.sk_rows.specs.declared.statement.Statement.{Statement}
 use Rattle.sk_rows.specs.declared.statement.Statement.TheVariants as statement
 use Rattle.sk_rows.specs.declared.table.Table.{Table}
