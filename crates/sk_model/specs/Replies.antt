@@ -1,46 +1,43 @@
 -- What one database replies to a statement, and what the statement writes.
-use Rattle.std.specs.Prelude.{ℕ, List, [], ◌∷◌, Option, Some, None, Bool, true, false, ◌&&◌, not, if◌then◌else◌, nat_le, is_some, sum_by, position, map, get_or}
-use Rattle.std.specs.Str.{bytes_eq}
-use Rattle.sk_rows.specs.declared.value.Sort.{Sort}
-use Rattle.sk_rows.specs.declared.value.Sort.TheVariants as sort
+use Rattle.std.specs.Prelude.{ℕ, List, [], ◌∷◌, length, Option, Some, None, Bool, true, false, ◌&&◌, ◌||◌, not, if◌then◌else◌, nat_le, is_some, sum_by, map, get_or, Result, Ok, Err}
+use Rattle.std.specs.List.{list_all}
+use Rattle.std.specs.Option.{option_map}
+use Rattle.std.specs.FinMap.{find}
 use Rattle.sk_rows.specs.declared.value.Value.{Value}
 use Rattle.sk_rows.specs.declared.value.Value.TheVariants as value
 use Rattle.sk_rows.specs.declared.table.Column.{Column}
 use Rattle.sk_rows.specs.declared.table.Table.{Table}
-use Rattle.sk_rows.specs.declared.expr.Op.{Op}
-use Rattle.sk_rows.specs.declared.expr.Op.TheVariants as op
 use Rattle.sk_rows.specs.declared.expr.Expr.{Expr}
-use Rattle.sk_rows.specs.declared.expr.Expr.TheOpen.{Expr-F}
-use Rattle.sk_rows.specs.declared.expr.Expr.TheFolds.{fold-Expr}
+use Rattle.sk_rows.specs.declared.statement.SetItem.{SetItem}
 use Rattle.sk_rows.specs.declared.statement.Statement.{Statement}
 use Rattle.sk_rows.specs.declared.statement.Statement.TheVariants as statement
-use Rattle.sk_rows.specs.Values.{sort_of, encoded_len}
+use Rattle.sk_rows.specs.declared.faults.ValueFault.{ValueFault}
+use Rattle.sk_rows.specs.Values.{encoded_len, value_cmp}
+use Rattle.sk_rows.specs.Evaluation.{◌>>=◌}
 use Rattle.sk_model.specs.declared.commit.Write.{Write}
 use Rattle.sk_model.specs.declared.reply.ErrWord.{ErrWord}
 use Rattle.sk_model.specs.declared.reply.ErrWord.TheVariants as err
 use Rattle.sk_model.specs.declared.reply.Reply.{Reply}
 use Rattle.sk_model.specs.declared.reply.Reply.TheVariants as reply
-use Rattle.sk_model.specs.Database.{RowOf, Tables, row_of}
+use Rattle.sk_model.specs.Database.{RowOf, KeyedRows, Tables, table_of}
+use Rattle.sk_model.specs.Names.{table_at, columns_at, cond_known, names_known, sets_known, sets_twice, sets_key}
+use Rattle.sk_model.specs.Sorts.{have_sorts, is_condition, sets_sorts}
+use Rattle.sk_model.specs.Reads.{rows_taken, picked}
+use Rattle.sk_model.specs.Changes.{new_rows}
 
--- the number of the table of this name
-abbrev pub table_at : List Table → List ℕ → Option ℕ
-table_at catalog name = position (λ t. bytes_eq t.name name) catalog
+-- a reply, and the writes that come with it
+abbrev pub Answer : Type 0
+Answer = Reply × List Write
 
-abbrev pub columns_at : List Table → ℕ → List Column
-columns_at catalog t = get_or (map (λ table. table.columns) catalog) t []
+-- a refusal writes nothing
+abbrev pub refused : ErrWord → Answer
+refused word = (reply.Refused word, [])
 
-abbrev pub same_sort : Sort → Sort → Bool
-same_sort sort.Int sort.Int = true
-same_sort sort.Text sort.Text = true
-same_sort sort.Bool sort.Bool = true
-same_sort _ _ = false
+abbrev pub row_put : ℕ → Value × RowOf → Write
+row_put t r = record { table = t; key = r.0; row = Some r.1 }
 
--- one value a column, each of its sort
-abbrev pub have_sorts : List Value → List Column → Bool
-have_sorts [] [] = true
-have_sorts [] (c ∷ cs) = false
-have_sorts (v ∷ vs) [] = false
-have_sorts (v ∷ vs) (c ∷ cs) = same_sort (sort_of v) c.sort && have_sorts vs cs
+abbrev pub row_gone : ℕ → Value × RowOf → Write
+row_gone t r = record { table = t; key = r.0; row = None }
 
 -- at most 1024 bytes in a file
 abbrev pub has_room : RowOf → Bool
@@ -49,91 +46,75 @@ has_room row = nat_le (sum_by encoded_len row) 1024
 abbrev pub key_of : RowOf → Value
 key_of row = get_or row 0 (value.Bool false)
 
--- INSERT of these values into a table
-abbrev pub insert_into : List Column → Tables → ℕ → List Value → Reply
-insert_into columns db t values =
-    if not (have_sorts values columns) then reply.Refused err.Type
-    else if is_some (row_of db t (key_of values)) then reply.Refused err.Duplicate
-    else if not (has_room values) then reply.Refused err.Size
-    else reply.Count 1
+-- INSERT of these values into table t
+unfoldable pub insert_answer : List Column → KeyedRows → ℕ → List Value → Answer
+insert_answer columns rows t values =
+    if not (have_sorts values columns) then refused err.Type
+    else if is_some (find value_cmp (key_of values) rows) then refused err.Duplicate
+    else if not (has_room values) then refused err.Size
+    else (reply.Count 1, row_put t (key_of values, values) ∷ [])
 
-abbrev pub insert_reply : List Table → Tables → Option ℕ → List Value → Reply
-insert_reply catalog db None values = reply.Refused err.Table
-insert_reply catalog db (Some t) values = insert_into (columns_at catalog t) db t values
+-- these rows were found, or a condition overflowed
+abbrev pub shown : List Column → Option (List (List ℕ)) → Result KeyedRows ValueFault → Answer
+shown columns names (Err fault) = refused err.Overflow
+shown columns names (Ok rows) = (reply.Rows (map (λ r. picked columns names r.1) rows), [])
 
-abbrev pub insert_writes : Option ℕ → List Value → List Write
-insert_writes None values = []
-insert_writes (Some t) values = record { table = t; key = key_of values; row = Some values } ∷ []
+-- SELECT of these columns, of the rows that the condition takes
+unfoldable pub select_answer : List Column → KeyedRows → Option (List (List ℕ)) → Option Expr → Answer
+select_answer columns rows names e =
+    if not (names_known columns names && cond_known columns e) then refused err.Column
+    else if not (is_condition columns e) then refused err.Type
+    else shown columns names (rows_taken columns e rows)
 
--- what a condition is, as far as `name = literal` goes
-pub data Shape : Type 0 where
-  Name : (name : List ℕ) → Shape
-  Literal : (value : Value) → Shape
-  Equation : (name : List ℕ) → (value : Value) → Shape
-  Other : Shape
+-- these are the new rows, or something overflowed
+abbrev pub updated : ℕ → Result KeyedRows ValueFault → Answer
+updated t (Err fault) = refused err.Overflow
+updated t (Ok rows) = if list_all (λ r. has_room r.1) rows then (reply.Count (length rows), map (row_put t) rows) else refused err.Size
 
-abbrev pub joined : Op → Shape → Shape → Shape
-joined op.Eq (Name name) (Literal v) = Equation name v
-joined _ _ _ = Other
+-- UPDATE of table t: of the rows that the condition takes
+unfoldable pub update_answer : List Column → KeyedRows → ℕ → List SetItem → Option Expr → Answer
+update_answer columns rows t sets e =
+    if not (sets_known columns sets && cond_known columns e) || sets_twice sets then refused err.Column
+    else if sets_key columns sets then refused err.Key
+    else if not (sets_sorts columns sets && is_condition columns e) then refused err.Type
+    else updated t (rows_taken columns e rows >>= new_rows columns sets)
 
-abbrev pub shape_step : Expr-F Shape → Shape
-shape_step (Expr-F.Lit v) = Literal v
-shape_step (Expr-F.Col name) = Name name
-shape_step (Expr-F.Not a) = Other
-shape_step (Expr-F.Two o a b) = joined o a b
+-- these rows are to go, or a condition overflowed
+abbrev pub deleted : ℕ → Result KeyedRows ValueFault → Answer
+deleted t (Err fault) = refused err.Overflow
+deleted t (Ok rows) = (reply.Count (length rows), map (row_gone t) rows)
 
-abbrev pub shape : Expr → Shape
-shape = fold-Expr Shape shape_step
+-- DELETE from table t of the rows that the condition takes
+unfoldable pub delete_answer : List Column → KeyedRows → ℕ → Option Expr → Answer
+delete_answer columns rows t e =
+    if not (cond_known columns e) then refused err.Column
+    else if not (is_condition columns e) then refused err.Type
+    else deleted t (rows_taken columns e rows)
 
--- the column is the key
-abbrev pub is_key : List Column → List ℕ → Bool
-is_key [] name = false
-is_key (c ∷ cs) name = bytes_eq c.name name
+-- the answer of a table, where it is there
+abbrev pub on_table : (ℕ → Answer) → Option ℕ → Answer
+on_table answer None = refused err.Table
+on_table answer (Some t) = answer t
 
-abbrev pub key_in : List Column → Shape → Option Value
-key_in columns (Equation name v) = if is_key columns name then Some v else None
-key_in columns _ = None
+-- what the database answers, where it is the database that answers
+abbrev pub answer_of : List Table → Tables → Statement → Option Answer
+answer_of catalog db (statement.Begin begun) = None
+answer_of catalog db statement.Commit = None
+answer_of catalog db statement.Rollback = None
+answer_of catalog db (statement.Insert table values) = Some (on_table (λ t. insert_answer (columns_at catalog t) (table_of db t) t values) (table_at catalog table))
+answer_of catalog db (statement.Select table names e) = Some (on_table (λ t. select_answer (columns_at catalog t) (table_of db t) names e) (table_at catalog table))
+answer_of catalog db (statement.Update table sets e) = Some (on_table (λ t. update_answer (columns_at catalog t) (table_of db t) t sets e) (table_at catalog table))
+answer_of catalog db (statement.Delete table e) = Some (on_table (λ t. delete_answer (columns_at catalog t) (table_of db t) t e) (table_at catalog table))
 
--- the one key that a condition asks for, where it is exactly `key = literal`
-abbrev pub key_asked : List Column → Option Expr → Option Value
-key_asked columns None = None
-key_asked columns (Some e) = key_in columns (shape e)
-
--- the value is of the key's sort
-abbrev pub fits_key : List Column → Value → Bool
-fits_key [] v = false
-fits_key (c ∷ cs) v = same_sort c.sort (sort_of v)
-
-abbrev pub one_row : Option RowOf → List RowOf
-one_row None = []
-one_row (Some row) = row ∷ []
-
--- SELECT of all columns of the row of one key. Other conditions and columns are not defined yet.
-abbrev pub select_key : List Column → Tables → ℕ → Option Value → Option Reply
-select_key columns db t None = None
-select_key columns db t (Some v) =
-    if fits_key columns v then Some (reply.Rows (one_row (row_of db t v))) else Some (reply.Refused err.Type)
-
-abbrev pub select_reply : List Table → Tables → Option ℕ → Option (List (List ℕ)) → Option Expr → Option Reply
-select_reply catalog db None names cond = Some (reply.Refused err.Table)
-select_reply catalog db (Some t) None cond =
-    let columns = columns_at catalog t in select_key columns db t (key_asked columns cond)
-select_reply catalog db (Some t) (Some names) cond = None
-
--- what the database replies, where it is the database that replies. UPDATE and DELETE are not defined yet.
 abbrev pub reply_of : List Table → Tables → Statement → Option Reply
-reply_of catalog db (statement.Begin begun) = None
-reply_of catalog db statement.Commit = None
-reply_of catalog db statement.Rollback = None
-reply_of catalog db (statement.Insert table values) = Some (insert_reply catalog db (table_at catalog table) values)
-reply_of catalog db (statement.Select table columns cond) = select_reply catalog db (table_at catalog table) columns cond
-reply_of catalog db (statement.Update table sets cond) = None
-reply_of catalog db (statement.Delete table cond) = None
+reply_of catalog db s = option_map (λ a. a.0) (answer_of catalog db s)
 
--- what a statement writes that was answered a count
+abbrev pub writes_in : Option Answer → List Write
+writes_in None = []
+writes_in (Some a) = a.1
+
 abbrev pub writes_of : List Table → Tables → Statement → List Write
-writes_of catalog db (statement.Insert table values) = insert_writes (table_at catalog table) values
-writes_of catalog db _ = []
+writes_of catalog db s = writes_in (answer_of catalog db s)
 
 -- the refusals that the database itself decides
 abbrev pub is_judged_word : ErrWord → Bool

@@ -1,7 +1,8 @@
 //! What transactions write and commit.
 
 use crate::label::Label;
-use sk_rows::{List, Row, Value};
+use sk_rows::{Copies, List, NoMemory, Row, Value};
+use std::alloc::Global;
 
 /// Gives one row of a table a new content, or takes it away.
 #[derive(Debug, Drop)]
@@ -31,3 +32,24 @@ pub struct Commit {
 
 /// Commits in order.
 pub type CommitList = List<Commit>;
+
+impl Copies for Write {
+    fn copy(&self, alloc: Global) -> Result<Write, NoMemory> {
+        Ok(Write {
+            table: self.table,
+            key: self.key.copy(alloc)?,
+            row: self.row.copy(alloc)?,
+        })
+    }
+}
+
+impl Copies for Commit {
+    fn copy(&self, alloc: Global) -> Result<Commit, NoMemory> {
+        Ok(Commit {
+            label: self.label,
+            mem: self.mem,
+            store: self.store,
+            writes: self.writes.copy(alloc)?,
+        })
+    }
+}

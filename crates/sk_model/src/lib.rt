@@ -9,6 +9,7 @@ mod point;
 mod record;
 mod reply;
 mod step;
+mod tables;
 
 pub use commit::{Commit, CommitList, Write, WriteList};
 pub use engine::EngineName;
@@ -16,5 +17,9 @@ pub use label::Label;
 pub use outcome::{Outcome, PlaceList};
 pub use point::{Point, PointList, Recycled};
 pub use record::{Ending, Record, RecordList, Said, SaidList, TxKind};
-pub use reply::{ErrWord, Reply, RowList, Why};
+pub use reply::{ErrWord, Reply, ReplyList, RowList, Why};
 pub use step::StepName;
+pub use tables::{KeyedRows, Tables};
+
+#[cfg(test)]
+mod tests;

@@ -4,7 +4,8 @@ use crate::engine::EngineName;
 use crate::label::Label;
 use crate::point::{Point, Recycled};
 use crate::step::StepName;
-use sk_rows::{List, Row};
+use sk_rows::{Copies, List, NoMemory, Row};
+use std::alloc::Global;
 
 /// Rows in the order of their keys.
 pub type RowList = List<Row>;
@@ -78,4 +79,39 @@ pub enum Reply {
         horizon: u32,
     },
     Refused(ErrWord),
+}
+
+/// Replies in order.
+pub type ReplyList = List<Reply>;
+
+impl Copies for Reply {
+    fn copy(&self, alloc: Global) -> Result<Reply, NoMemory> {
+        match self {
+            Reply::Began(label) => Ok(Reply::Began(*label)),
+            Reply::Count(count) => Ok(Reply::Count(*count)),
+            Reply::Rows(rows) => Ok(Reply::Rows(rows.copy(alloc)?)),
+            Reply::Committed => Ok(Reply::Committed),
+            Reply::RolledBack => Ok(Reply::RolledBack),
+            Reply::Step(step, number) => Ok(Reply::Step(*step, *number)),
+            Reply::CheckFailed { point, mem, store } => Ok(Reply::CheckFailed {
+                point: *point,
+                mem: *mem,
+                store: *store,
+            }),
+            Reply::Spent(engine) => Ok(Reply::Spent(*engine)),
+            Reply::Conflict { by, why } => Ok(Reply::Conflict { by: *by, why: *why }),
+            Reply::Busy { by } => Ok(Reply::Busy { by: *by }),
+            Reply::Recycled(recycled) => Ok(Reply::Recycled(*recycled)),
+            Reply::Old {
+                engine,
+                snapshot,
+                horizon,
+            } => Ok(Reply::Old {
+                engine: *engine,
+                snapshot: *snapshot,
+                horizon: *horizon,
+            }),
+            Reply::Refused(word) => Ok(Reply::Refused(*word)),
+        }
+    }
 }
