@@ -1,0 +1,61 @@
+-- How far a line can be read.
+use Rattle.std.specs.Prelude.{ℕ, ◌+◌, ◌-◌, Bool, true, false, ◌||◌, ◌==◌, if◌then◌else◌, nat_lt, List, [], ◌∷◌, ◌++◌, length, take, drop, Option, Some, None, is_some}
+use Rattle.std.specs.List.{prefix_len}
+use Rattle.sk_lex.specs.declared.scanning.Stop.{Stop}
+use Rattle.sk_lex.specs.declared.scanning.Stop.TheVariants as stop
+use Rattle.sk_lex.specs.declared.token.Token.{Token}
+use Rattle.sk_lex.specs.declared.token.Word.TheVariants as word
+use Rattle.sk_lex.specs.Front.{Text}
+use Rattle.sk_lex.specs.Scanning.{scan}
+use Rattle.sk_script.specs.declared.legible.Legible.{Legible}
+
+-- How many bytes a text holds that goes on with these, behind so many others. The flag: a quote was read, which ends
+-- the text unless a second follows.
+abbrev pub held_from : Bool → ℕ → Text → ℕ
+held_from is_second n [] = n
+held_from false n (b ∷ z) = if b == 39 then held_from true n z else held_from false (n + 1) z
+held_from true n (b ∷ z) = if b == 39 then held_from false (n + 1) z else n
+
+-- the text whose quote stands at this place is past its limit
+unfoldable pub is_long : ℕ → Text → Bool
+is_long from line = nat_lt 255 (held_from false 0 (drop (from + 1) line))
+
+-- How many bytes stand before the first that fits no token. Of a text that is not ended, or is past its limit, it is
+-- the quote.
+abbrev pub reach : Text → Option Stop → ℕ
+reach line None = length line
+reach line (Some (stop.OpenText place)) = place - 1
+reach line (Some (stop.BadByte from place)) = if is_long from line then from else place - 1
+
+-- no line is read past its limit
+abbrev pub capped : ℕ → ℕ
+capped n = if nat_lt n 4096 then n else 4096
+
+-- where a text begins that holds the byte which fits no token
+abbrev pub open_from : Option Stop → ℕ → Option ℕ
+open_from (Some (stop.BadByte from place)) end = if nat_lt from end then Some from else None
+open_from _ end = None
+
+-- it fits where a text fits
+abbrev pub with_text : List Token → ℕ → Option ℕ → List Token
+with_text tokens end None = tokens
+with_text tokens end (Some from) = tokens ++ record { word = word.Text []; from = from; to = end } ∷ []
+
+abbrev pub begins_before : ℕ → Token → Bool
+begins_before end t = nat_lt t.from end
+
+-- the tokens that begin there
+abbrev pub kept : List Token → ℕ → List Token
+kept tokens end = take (prefix_len (begins_before end) tokens) tokens
+
+abbrev pub front : Bool → Text → Option Stop → List Token → ℕ → Legible
+front long line s tokens end = record {
+  tokens = kept (with_text tokens end (open_from s end)) end;
+  end = end;
+  spoilt = long || nat_lt 4096 (length line) || is_some s;
+}
+
+-- The front of a line, up to the first byte that may not stand there: one that fits no token, the one past the limit
+-- of lines, or one past the limit of scripts, which stands behind the line. Tokens that begin before it are in it whole.
+unfoldable pub legible : Bool → Text → Legible
+legible long line = front long line (scan line).1 (scan line).0 (capped (reach line (scan line).1))

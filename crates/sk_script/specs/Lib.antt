@@ -1,0 +1,6 @@
+pub mod Lines
+pub mod Legible
+pub mod Header
+pub mod Body
+pub mod Script
+pub mod Words

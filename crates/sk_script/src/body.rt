@@ -1,0 +1,111 @@
+//! Lines of a session.
+
+ghost use Rattle.std.specs.Prelude.{◌≡◌, ◌≤◌, length};
+ghost use Rattle.std.specs.List.{prefix_len};
+ghost use Rattle.sk_parse.specs.Statements.{place_of};
+ghost use Rattle.sk_script.specs.Body as spec;
+ghost use Rattle.sk_script.specs.Lines.{IsLine, Gives};
+
+use crate::script::Line;
+use sk_lex::{Token, Word};
+use sk_parse::{ParseFault, statement};
+use sk_rows::Statement;
+use std::alloc::Global;
+
+/// The fault that the first of the tokens does not fit, or that there is none.
+fn misfit(tokens: &[Token], end: u32) -> ParseFault
+    requires { IsLine tokens.now end }
+    ensures { result ≡ ParseFault.Unexpected (place_of end tokens.now) }
+{
+    match tokens {
+        [] => ParseFault::Unexpected { place: end + 1 },
+        [t, ..] => ParseFault::Unexpected { place: t.from + 1 },
+    }
+}
+
+/// The session that a word names. There is one.
+fn session_of(word: &Word) -> Option<u16>
+    ensures { result ≡ spec.session_of word.now }
+{
+    match word {
+        Word::Number(n) => { if *n == 1 { Some(1) } else { None } }
+        _ => None,
+    }
+}
+
+fn is_mark(byte: u8, word: &Word) -> bool
+    ensures { result ≡ spec.is_mark byte word.now }
+{
+    match word {
+        Word::Mark(a, b) => *a == byte && *b == 0,
+        _ => false,
+    }
+}
+
+/// How many tokens stand before the first semicolon.
+fn statement_len(tokens: &[Token]) -> usize
+    ensures value { result ≡ prefix_len spec.goes_on tokens.now }
+    ensures within { result ≤ length tokens.now }
+{
+    let mut n = 0;
+    while n < tokens.len() && !is_mark(b';', &tokens[n].word) {
+        n += 1;
+    }
+    n
+}
+
+/// The statement before a semicolon, with nothing behind that.
+#[tactic(auto, unfolding(crate::specs::Body::closed))]
+fn closed(
+    alloc: Global,
+    tokens: &[Token],
+    end: u32,
+    rest: &[Token],
+    rest_end: u32,
+) -> Result<Statement, ParseFault>
+    requires before { IsLine tokens.now end }
+    requires behind { IsLine rest.now rest_end }
+    ensures { Gives result (spec.closed tokens.now end rest.now) }
+{
+    let found = statement(alloc, tokens, end)?;
+    if rest.is_empty() {
+        Ok(found)
+    } else {
+        Err(misfit(rest, rest_end))
+    }
+}
+
+/// What is said, with or without a semicolon behind it.
+#[tactic(auto, using(crate::proofs::Rising::line_behind), unfolding(crate::specs::Body::said))]
+fn said(alloc: Global, tokens: &[Token], end: u32) -> Result<Statement, ParseFault>
+    requires { IsLine tokens.now end }
+    ensures { Gives result (spec.said tokens.now end) }
+{
+    let n = statement_len(tokens);
+    match &tokens[n..] {
+        [] => statement(alloc, tokens, end),
+        [mark, rest @ ..] => closed(alloc, &tokens[..n], mark.from, rest, end),
+    }
+}
+
+/// What a line of a session says.
+#[tactic(auto, using(crate::proofs::Rising::line_behind), unfolding(crate::specs::Body::body))]
+pub fn body(alloc: Global, tokens: &[Token], end: u32) -> Result<Line, ParseFault>
+    requires { IsLine tokens.now end }
+    ensures { Gives result (spec.body tokens.now end) }
+{
+    let [first, behind @ ..] = tokens else {
+        return Err(misfit(tokens, end));
+    };
+    let Some(session) = session_of(&first.word) else {
+        return Err(misfit(tokens, end));
+    };
+    let [colon, words @ ..] = behind else {
+        return Err(misfit(behind, end));
+    };
+    if !is_mark(b':', &colon.word) {
+        return Err(misfit(behind, end));
+    }
+    let statement = said(alloc, words, end)?;
+    Ok(Line::Says { session, statement })
+}

@@ -1,0 +1,168 @@
+//! How far a line can be read.
+
+ghost use Rattle.std.specs.Prelude.{◌≡◌, ◌≤◌, length, drop, false, IfOk};
+ghost use Rattle.std.specs.List.{prefix_len};
+ghost use Rattle.sk_script.specs.Legible as spec;
+ghost use Rattle.sk_script.specs.Lines.{IsLine};
+
+use sk_lex::{Scanned, Stop, Token, TokenList, Word, scan};
+use sk_rows::{NoMemory, Txt};
+use std::alloc::Global;
+
+/// The longest line, in bytes without its end.
+const LONGEST: usize = 4096;
+
+/// The longest text, in bytes.
+const LONGEST_TEXT: usize = 255;
+
+/// The front of a line, up to the first byte that may not stand there.
+#[derive(Drop)]
+pub struct Legible {
+    /// The tokens that begin in it.
+    pub tokens: TokenList,
+    /// How many bytes it has.
+    pub end: u32,
+    /// Whether there is such a byte.
+    pub spoilt: bool,
+}
+
+fn behind(line: &[u8], count: usize) -> &[u8]
+    ensures value { result.now ≡ drop count line.now }
+    ensures shorter { length result.now ≤ length line.now }
+{
+    if count <= line.len() {
+        &line[count..]
+    } else {
+        &line[line.len()..]
+    }
+}
+
+/// How many bytes a text holds, which goes on with these behind its opening quote.
+fn held(mut bytes: &[u8]) -> usize
+    requires { length bytes.now ≤ 16777216 }
+    ensures { result ≡ spec.held_from false 0 bytes.entry.now }
+{
+    let mut n = 0;
+    let mut is_second = false;
+    while let [b, rest @ ..] = bytes {
+        if *b == b'\'' {
+            if is_second {
+                n += 1;
+            }
+            is_second = !is_second;
+        } else if is_second {
+            return n;
+        } else {
+            n += 1;
+        }
+        bytes = rest;
+    }
+    n
+}
+
+/// Whether the text whose quote stands there is too long.
+#[tactic(auto, unfolding(crate::specs::Legible::is_long))]
+fn is_long(line: &[u8], from: u32) -> bool
+    requires { length line.now ≤ 16777216 }
+    ensures { result ≡ spec.is_long from line.now }
+{
+    held(behind(line, from as usize + 1)) > LONGEST_TEXT
+}
+
+/// How many bytes stand before the first that fits no token.
+fn reach(line: &[u8], stop: Option<Stop>) -> usize
+    requires { length line.now ≤ 16777216 }
+    ensures { result ≡ spec.reach line.now stop }
+{
+    match stop {
+        None => line.len(),
+        Some(Stop::OpenText { place }) => place.saturating_sub(1) as usize,
+        Some(Stop::BadByte { from, place }) => {
+            if is_long(line, from) {
+                from as usize
+            } else {
+                place.saturating_sub(1) as usize
+            }
+        }
+    }
+}
+
+fn capped(n: usize) -> u32
+    ensures value { result ≡ spec.capped n }
+    ensures short { result ≤ 4096 }
+{
+    if n < LONGEST {
+        n as u32
+    } else {
+        LONGEST as u32
+    }
+}
+
+/// Where a text begins that holds a byte which no text may hold.
+fn open_from(stop: Option<Stop>, end: u32) -> Option<u32>
+    ensures { result ≡ spec.open_from stop end }
+{
+    match stop {
+        Some(Stop::BadByte { from, .. }) => { if from < end { Some(from) } else { None } }
+        _ => None,
+    }
+}
+
+/// The tokens with a text behind them that begins there, and that is read as an empty one.
+fn with_text(
+    alloc: Global,
+    mut tokens: TokenList,
+    from: Option<u32>,
+    end: u32,
+) -> Result<TokenList, NoMemory>
+    ensures { IfOk result (λ r. r ≡ spec.with_text tokens end from) }
+{
+    if let Some(from) = from {
+        let word = Word::Text(Txt::from_slice(alloc, b"")?);
+        tokens.push(Token {
+            word,
+            from,
+            to: end,
+        })?;
+    }
+    Ok(tokens)
+}
+
+/// How many tokens stand before the first that does not begin there.
+fn begun_len(tokens: &[Token], end: u32) -> usize
+    ensures value { result ≡ prefix_len (spec.begins_before end) tokens.now }
+    ensures within { result ≤ length tokens.now }
+{
+    let mut n = 0;
+    while n < tokens.len() && tokens[n].from < end {
+        n += 1;
+    }
+    n
+}
+
+/// The tokens that begin there.
+fn kept(tokens: TokenList, end: u32) -> TokenList
+    ensures { result ≡ spec.kept tokens end }
+{
+    let len = begun_len(tokens.as_slice(), end);
+    let mut found = tokens.into_vec();
+    found.truncate(len);
+    TokenList::from_vec(found)
+}
+
+/// The front of a line that can be read. `long` says that a byte stands behind the line which may not be there.
+#[tactic(auto, unfolding(crate::specs::Legible::legible))]
+pub fn legible_front(alloc: Global, line: &[u8], long: bool) -> Result<Legible, NoMemory>
+    requires { length line.now ≤ 16777216 }
+    ensures value { IfOk result (λ r. r ≡ spec.legible long line.now) }
+    ensures ordered { IfOk result (λ r. IsLine r.tokens r.end) }
+{
+    let Scanned { tokens, stop } = scan(alloc, line)?;
+    let end = capped(reach(line, stop));
+    let whole = with_text(alloc, tokens, open_from(stop, end), end)?;
+    Ok(Legible {
+        tokens: kept(whole, end),
+        end,
+        spoilt: long || line.len() > LONGEST || stop.is_some(),
+    })
+}

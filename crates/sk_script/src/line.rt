@@ -1,0 +1,157 @@
+//! One line of a script.
+
+ghost use Rattle.std.specs.Prelude.{◌≡◌, ◌≤◌, length};
+ghost use Rattle.sk_script.specs.Script as spec;
+ghost use Rattle.sk_script.specs.Lines.{Gives, IsLine};
+
+use crate::body::body;
+use crate::header::table_line;
+use crate::legible::{Legible, legible_front};
+use crate::script::{Script, ScriptLine, TableLine};
+use sk_lex::{Keyword, Token, Word};
+use sk_parse::ParseFault;
+use std::alloc::Global;
+
+/// Whether a line holds nothing, or nothing but a comment.
+fn is_passed_over(mut line: &[u8]) -> bool
+    ensures { result ≡ spec.is_passed_over line.entry.now }
+{
+    while let [b, rest @ ..] = line {
+        if *b != b' ' {
+            return *b == b'#';
+        }
+        line = rest;
+    }
+    true
+}
+
+/// How many bytes from the front a script may hold, of those that a line may have.
+fn good_len(line: &[u8]) -> usize
+    ensures value { result ≡ spec.good_len line.now }
+    ensures short { result ≤ 4096 }
+{
+    let mut n = 0;
+    while n < line.len() && 32 <= line[n] && line[n] <= 126 {
+        n += 1;
+    }
+    n.min(4096)
+}
+
+/// The script, if nothing stands in the line which it passes over that may not be there.
+#[tactic(auto, unfolding(crate::specs::Script::passed))]
+fn passed(script: Script, line: &[u8], long: bool) -> Result<Script, ParseFault>
+    ensures { Gives result (spec.passed long script line.now) }
+{
+    let good = good_len(line);
+    if long || good < line.len() {
+        Err(ParseFault::Unexpected {
+            place: good as u32 + 1,
+        })
+    } else {
+        Ok(script)
+    }
+}
+
+fn is_table(word: &Word) -> bool
+    ensures { result ≡ spec.is_table word.now }
+{
+    match word {
+        Word::Key(Keyword::Table) => true,
+        _ => false,
+    }
+}
+
+/// Whether a line makes a table. Behind a session's line none does.
+fn is_header(lines: &[ScriptLine], tokens: &[Token]) -> bool
+    ensures { result ≡ spec.is_header lines.now tokens.now }
+{
+    match (lines, tokens) {
+        ([], [t, ..]) => is_table(&t.word),
+        _ => false,
+    }
+}
+
+/// The fault behind the front of a line, if there is one.
+fn behind(front: &Legible) -> Result<(), ParseFault>
+    requires { front.now.end ≤ 4096 }
+    ensures { result ≡ spec.behind front.now }
+{
+    if front.spoilt {
+        Err(ParseFault::Unexpected {
+            place: front.end + 1,
+        })
+    } else {
+        Ok(())
+    }
+}
+
+#[tactic(auto, unfolding(crate::specs::Script::with_table))]
+fn with_table(
+    alloc: Global,
+    script: Script,
+    number: u32,
+    front: &Legible,
+) -> Result<Script, ParseFault>
+    requires { IsLine front.now.tokens front.now.end }
+    ensures { Gives result (spec.with_table script number front.now) }
+{
+    let Script { mut tables, lines } = script;
+    let table = table_line(alloc, tables.as_slice(), front.tokens.as_slice(), front.end)?;
+    behind(front)?;
+    if tables
+        .push(TableLine {
+            line: number,
+            table,
+        })
+        .is_err()
+    {
+        return Err(ParseFault::NoMemory);
+    }
+    Ok(Script { tables, lines })
+}
+
+#[tactic(auto, unfolding(crate::specs::Script::with_body))]
+fn with_body(
+    alloc: Global,
+    script: Script,
+    number: u32,
+    front: &Legible,
+) -> Result<Script, ParseFault>
+    requires { IsLine front.now.tokens front.now.end }
+    ensures { Gives result (spec.with_body script number front.now) }
+{
+    let Script { tables, mut lines } = script;
+    let what = body(alloc, front.tokens.as_slice(), front.end)?;
+    behind(front)?;
+    if lines.push(ScriptLine { line: number, what }).is_err() {
+        return Err(ParseFault::NoMemory);
+    }
+    Ok(Script { tables, lines })
+}
+
+/// The script with one more line, or the place of the line's first fault.
+///
+/// `long` says that a byte stands behind the line which may not be there.
+#[tactic(auto, unfolding(crate::specs::Script::with_line))]
+pub fn with_line(
+    alloc: Global,
+    script: Script,
+    number: u32,
+    line: &[u8],
+    long: bool,
+) -> Result<Script, ParseFault>
+    requires { length line.now ≤ 16777216 }
+    ensures { Gives result (spec.with_line long script number line.now) }
+{
+    if is_passed_over(line) {
+        return passed(script, line, long);
+    }
+    let Ok(front) = legible_front(alloc, line, long) else {
+        return Err(ParseFault::NoMemory);
+    };
+    if is_header(script.lines.as_slice(), front.tokens.as_slice()) {
+        with_table(alloc, script, number, &front)
+    } else {
+        with_body(alloc, script, number, &front)
+    }
+}

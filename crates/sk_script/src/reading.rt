@@ -1,0 +1,139 @@
+//! A script, line by line.
+
+ghost use Rattle.std.specs.Prelude.{◌≡◌, ◌+◌, ◌≤◌, ◌<◌, [], ◌∷◌, length, IfSome, IfNone, take};
+ghost use Rattle.std.specs.Option.{option_copied};
+ghost use Rattle.std.specs.List.{prefix_len};
+ghost use Rattle.sk_script.specs.Script as spec;
+
+use crate::line::with_line;
+use crate::script::{Script, ScriptFault, ScriptLineList, TableLineList};
+use sk_parse::ParseFault;
+use std::alloc::Global;
+
+/// The longest script, in bytes.
+const LONGEST: usize = 16_777_216;
+
+/// How many bytes stand before the first line end.
+fn line_len(bytes: &[u8]) -> usize
+    ensures value { result ≡ prefix_len spec.goes_on bytes.now }
+    ensures within { result ≤ length bytes.now }
+{
+    let mut n = 0;
+    while n < bytes.len() && bytes[n] != b'\n' {
+        n += 1;
+    }
+    n
+}
+
+/// The first line with what stands before its end, and what stands behind that, if it is ended.
+#[tactic(auto, using(crate::proofs::Cuts::one_piece))]
+fn split_line(bytes: &[u8]) -> Option<(&[u8], &[u8])>
+    ensures cut { IfSome result (λ r. spec.pieces bytes.now ≡ r.0.now ∷ spec.pieces r.1.now) }
+    ensures within { IfSome result (λ r. length r.0.now ≤ length bytes.now) }
+    ensures shorter { IfSome result (λ r. length r.1.now < length bytes.now) }
+    ensures open { IfNone result (spec.pieces bytes.now ≡ bytes.now ∷ []) }
+{
+    let end = line_len(bytes);
+    if end < bytes.len() {
+        Some((&bytes[..end], &bytes[end + 1..]))
+    } else {
+        None
+    }
+}
+
+#[tactic(auto, unfolding(crate::specs::Script::before))]
+fn before<'a>(text: &[u8], bytes: &'a [u8]) -> Option<&'a [u8]>
+    ensures value { option_copied result ≡ spec.before text.now bytes.now }
+    ensures within { IfSome result (λ r. length r.now ≤ length bytes.now) }
+{
+    bytes.strip_suffix(text)
+}
+
+/// A line without the return that belongs to its end.
+fn without_return(line: &[u8]) -> &[u8]
+    ensures value { result.now ≡ spec.without_return line.now }
+    ensures within { length result.now ≤ length line.now }
+{
+    match before(b"\r", line) {
+        Some(rest) => rest,
+        None => line,
+    }
+}
+
+/// The fault of a line, as one of the script.
+fn at(line: u32, fault: ParseFault) -> ScriptFault
+    ensures { result ≡ spec.at line fault }
+{
+    match fault {
+        ParseFault::Unexpected { place } => ScriptFault::At { line, place },
+        ParseFault::NoMemory => ScriptFault::NoMemory,
+    }
+}
+
+/// The script with a last line that is not ended.
+#[tactic(auto, unfolding(crate::specs::Script::with_last))]
+fn with_last(
+    alloc: Global,
+    script: Script,
+    number: u32,
+    line: &[u8],
+    long: bool,
+) -> Result<Script, ScriptFault>
+    requires { length line.now ≤ 16777216 }
+    ensures { spec.Gives result (spec.with_last long script number line.now) }
+{
+    if line.is_empty() && !long {
+        return Ok(script);
+    }
+    match with_line(alloc, script, number, line, long) {
+        Ok(next) => Ok(next),
+        Err(fault) => Err(at(number, fault)),
+    }
+}
+
+/// Reads lines up to the end of the bytes, where `long` says that there were more of them.
+#[tactic(auto, using(crate::proofs::Cuts::one_line))]
+fn read_lines(alloc: Global, bytes: &[u8], long: bool) -> Result<Script, ScriptFault>
+    requires { length bytes.now ≤ 16777216 }
+    ensures { spec.Gives result (spec.read_from long spec.nothing 1 (spec.pieces bytes.now)) }
+{
+    let mut rest = bytes;
+    let mut script = Script {
+        tables: TableLineList::new(alloc),
+        lines: ScriptLineList::new(alloc),
+    };
+    let mut number: u32 = 1;
+    'lines: while let Some((first, more)) = split_line(rest) {
+        match with_line(alloc, script, number, without_return(first), false) {
+            Ok(next) => script = next,
+            Err(fault) => return Err(at(number, fault)),
+        }
+        rest = more;
+        number += 1;
+    }
+    with_last(alloc, script, number, rest, long)
+}
+
+/// At most so many bytes from the front.
+fn front(bytes: &[u8], most: usize) -> &[u8]
+    ensures value { result.now ≡ take most bytes.now }
+    ensures within { length result.now ≤ most }
+{
+    if bytes.len() > most {
+        &bytes[..most]
+    } else {
+        bytes
+    }
+}
+
+/// The script that the bytes are, or its first fault: that of the first line with one, at its least place.
+///
+/// Faults are a token that does not fit, passes a limit or repeats a name, a byte that is not allowed, a text that is
+/// not ended, the end of a line where more was to come, and what passes the limits of a line or of the script.
+#[tactic(auto, unfolding(crate::specs::Script::script_of))]
+pub fn read_script(alloc: Global, bytes: &[u8]) -> Result<Script, ScriptFault>
+    ensures exact { spec.Gives result (spec.script_of bytes.now) }
+{
+    let long = bytes.len() > LONGEST;
+    read_lines(alloc, front(bytes, LONGEST), long)
+}
