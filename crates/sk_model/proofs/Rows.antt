@@ -23,7 +23,7 @@ use Rattle.sk_model.specs.declared.reply.Reply.TheVariants as reply
 use Rattle.sk_model.specs.Database.{RowOf, Tables}
 use Rattle.sk_model.specs.Names.{expr_known, known_step}
 use Rattle.sk_model.specs.Reads.{Shape, Equation, Other, shape, shape_step}
-use Rattle.sk_model.specs.Replies.{answer_of, insert_answer, select_answer, update_answer, delete_answer}
+use Rattle.sk_model.specs.Replies.{answer_of, insert_refusal, select_refusal, update_refusal, delete_refusal}
 use Rattle.sk_model.proofs.Layers.{of_lit, of_col, of_two, of_pair}
 
 abbrev a : List ℕ
@@ -76,7 +76,7 @@ no_table : answer_of catalog two (statement.Select (codes "z") None None) ≡ So
 no_table = refl
 
 no_column : answer_of catalog two (statement.Select a (Some (codes "z" ∷ [])) None) ≡ Some (reply.Refused err.Column, [])
-unfolding select_answer
+unfolding select_refusal
 no_column = refl
 
 two_expr : Expr
@@ -87,7 +87,7 @@ unfolding two_expr
 two_known = of_lit Bool (known_step numbers) (int 2)
 
 the_key_set : answer_of catalog two (statement.Update a (set id two_expr ∷ []) None) ≡ Some (reply.Refused err.Key, [])
-unfolding update_answer
+unfolding update_refusal
 the_key_set = rw two_known refl
 
 z_is_1 : Expr
@@ -98,16 +98,16 @@ unfolding z_is_1
 z_unknown = of_pair Bool (known_step numbers) op.Eq (codes "z") (int 1)
 
 a_name_before_the_key : answer_of catalog two (statement.Update a (set id two_expr ∷ []) (Some z_is_1)) ≡ Some (reply.Refused err.Column, [])
-unfolding update_answer
+unfolding update_refusal
 a_name_before_the_key = rw (two_known, z_unknown) refl
 
 set_twice : answer_of catalog two (statement.Update a (set v two_expr ∷ set v two_expr ∷ []) None) ≡ Some (reply.Refused err.Column, [])
-unfolding update_answer
+unfolding update_refusal
 set_twice = rw two_known refl
 
 -- Counts and sorts.
 a_value_short : answer_of catalog two (statement.Insert a (int 2 ∷ [])) ≡ Some (reply.Refused err.Type, [])
-unfolding insert_answer
+unfolding insert_refusal
 a_value_short = refl
 
 just_v : Expr
@@ -122,7 +122,7 @@ unfolding just_v column_sort
 v_sort = of_col (Result Sort TypeFault) (sort_step numbers) v
 
 no_truth : answer_of catalog two (statement.Select a None (Some just_v)) ≡ Some (reply.Refused err.Type, [])
-unfolding select_answer
+unfolding select_refusal
 no_truth = rw (v_known, v_sort) refl
 
 -- Duplicates, and sizes behind them.
@@ -137,19 +137,19 @@ abbrev large : RowOf
 large = long ∷ long ∷ long ∷ long ∷ long ∷ []
 
 a_second_row : answer_of catalog two (statement.Insert a (row 1 0)) ≡ Some (reply.Refused err.Duplicate, [])
-unfolding insert_answer
+unfolding insert_refusal
 a_second_row = refl
 
 too_large : answer_of catalog two (statement.Insert (codes "w") large) ≡ Some (reply.Refused err.Size, [])
-unfolding insert_answer
+unfolding insert_refusal
 too_large = refl
 
 a_duplicate_before_the_size : answer_of catalog ([] ∷ ((long, large) ∷ []) ∷ []) (statement.Insert (codes "w") large) ≡ Some (reply.Refused err.Duplicate, [])
-unfolding insert_answer
+unfolding insert_refusal
 a_duplicate_before_the_size = refl
 
 inserted : answer_of catalog two (statement.Insert a (row 3 30)) ≡ Some (reply.Count 1, record { table = 0; key = int 3; row = Some (row 3 30) } ∷ [])
-unfolding insert_answer
+unfolding insert_refusal
 inserted = refl
 
 -- `v + 1`, over all rows.
@@ -172,11 +172,11 @@ updated : answer_of catalog two (statement.Update a (set v plus ∷ []) None) �
   reply.Count 2,
   record { table = 0; key = int 1; row = Some (row 1 11) } ∷ record { table = 0; key = int 2; row = Some (row 2 21) } ∷ [],
 )
-unfolding update_answer column_sort compute in_64
+unfolding update_refusal column_sort compute in_64
 updated = rw (plus_known, plus_sort, plus_at 1 10, plus_at 2 20) refl
 
 overflows : answer_of catalog full (statement.Update a (set v plus ∷ []) None) ≡ Some (reply.Refused err.Overflow, [])
-unfolding update_answer column_sort compute in_64
+unfolding update_refusal column_sort compute in_64
 overflows = rw (plus_known, plus_sort, plus_at 1 10, plus_at 2 greatest) refl
 
 -- `v < 15`, which one of the two rows meets.
@@ -200,16 +200,16 @@ unfolding less column_value
 less_at key n = of_pair (Result Value ValueFault) (value_step numbers (row key n)) op.Lt v (int 15)
 
 selected : answer_of catalog two (statement.Select a (Some (v ∷ id ∷ [])) (Some less)) ≡ Some (reply.Rows ((int 10 ∷ int 1 ∷ []) ∷ []), [])
-unfolding select_answer column_value compute
+unfolding select_refusal column_value compute
 selected = rw (less_known, less_sort, less_shape, less_at 1 10, less_at 2 20) refl
 
 deleted : answer_of catalog two (statement.Delete a (Some less)) ≡ Some (reply.Count 1, record { table = 0; key = int 1; row = None } ∷ [])
-unfolding delete_answer compute
+unfolding delete_refusal compute
 deleted = rw (less_known, less_sort, less_shape, less_at 1 10, less_at 2 20) refl
 
 -- only a row that the condition takes has new values
 taken_alone : answer_of catalog full (statement.Update a (set v plus ∷ []) (Some less)) ≡ Some (reply.Count 1, record { table = 0; key = int 1; row = Some (row 1 11) } ∷ [])
-unfolding update_answer column_sort compute in_64
+unfolding update_refusal column_sort compute in_64
 taken_alone = rw (less_known, plus_known, less_sort, plus_sort, less_shape, less_at 1 10, less_at 2 greatest, plus_at 1 10) refl
 
 -- `v + 1 = 11`, which overflows at the row (2, 9223372036854775807)
@@ -234,7 +234,7 @@ eleven_at key n =
     of_two (Result Value ValueFault) (value_step numbers (row key n)) op.Eq plus (expr.Lit (int 11)) ∙ rw (plus_at key n, of_lit (Result Value ValueFault) (value_step numbers (row key n)) (int 11)) refl
 
 a_condition_overflows : answer_of catalog full (statement.Delete a (Some eleven)) ≡ Some (reply.Refused err.Overflow, [])
-unfolding delete_answer compute in_64
+unfolding delete_refusal compute in_64
 a_condition_overflows = rw (eleven_known, eleven_sort, eleven_shape, eleven_at 1 10, eleven_at 2 greatest) refl
 
 -- `id = 1` reads that row alone, `1 = id` reads the table.
@@ -262,6 +262,6 @@ col_value name r = of_col (Result Value ValueFault) (value_step texts r) name
 
 exchanged : answer_of catalog ([] ∷ ((letter 120, swapped (letter 1) (letter 2)) ∷ []) ∷ []) (statement.Update (codes "w") (set a (expr.Col b) ∷ set b (expr.Col a) ∷ []) None)
     ≡ Some (reply.Count 1, record { table = 1; key = letter 120; row = Some (swapped (letter 2) (letter 1)) } ∷ [])
-unfolding update_answer column_sort column_value
+unfolding update_refusal column_sort column_value
 exchanged =
     rw (col_known a, col_known b, col_sort a, col_sort b, col_value a (swapped (letter 1) (letter 2)), col_value b (swapped (letter 1) (letter 2))) refl

@@ -62,10 +62,6 @@ abbrev pub rows_met : List Column → Option Expr → KeyedRows → Result Keyed
 rows_met columns e [] = Ok []
 rows_met columns e (r ∷ rs) = meets columns e r.1 >>= λ met. rows_met columns e rs >>= λ rest. Ok (cond met (r ∷ rest) rest)
 
--- the rows of a table that a statement with this condition takes
-abbrev pub rows_taken : List Column → Option Expr → KeyedRows → Result KeyedRows ValueFault
-rows_taken columns e rows = rows_met columns e (rows_read rows (key_asked columns e))
-
 -- the values that are asked for; no list of names stands for all columns
 abbrev pub picked : List Column → Option (List (List ℕ)) → RowOf → RowOf
 picked columns None row = row

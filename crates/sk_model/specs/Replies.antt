@@ -1,8 +1,8 @@
--- What one database replies to a statement, and what the statement writes.
-use Rattle.std.specs.Prelude.{ℕ, List, [], ◌∷◌, length, Option, Some, None, Bool, true, false, ◌&&◌, ◌||◌, not, if◌then◌else◌, nat_le, is_some, sum_by, map, get_or, Result, Ok, Err}
+-- What one database replies to a statement, and what the statement writes: what refuses it whatever rows there are, which rows it
+-- reads, and what it comes to over these.
+use Rattle.std.specs.Prelude.{ℕ, List, [], ◌∷◌, length, Option, Some, None, Bool, true, false, ◌&&◌, ◌||◌, not, if◌then◌else◌, nat_le, sum_by, map, get_or, Result, Ok, Err}
 use Rattle.std.specs.List.{list_all}
 use Rattle.std.specs.Option.{option_map}
-use Rattle.std.specs.FinMap.{find}
 use Rattle.sk_rows.specs.declared.value.Value.{Value}
 use Rattle.sk_rows.specs.declared.value.Value.TheVariants as value
 use Rattle.sk_rows.specs.declared.table.Column.{Column}
@@ -12,7 +12,7 @@ use Rattle.sk_rows.specs.declared.statement.SetItem.{SetItem}
 use Rattle.sk_rows.specs.declared.statement.Statement.{Statement}
 use Rattle.sk_rows.specs.declared.statement.Statement.TheVariants as statement
 use Rattle.sk_rows.specs.declared.faults.ValueFault.{ValueFault}
-use Rattle.sk_rows.specs.Values.{encoded_len, value_cmp}
+use Rattle.sk_rows.specs.Values.{encoded_len}
 use Rattle.sk_rows.specs.Evaluation.{◌>>=◌}
 use Rattle.sk_model.specs.declared.commit.Write.{Write}
 use Rattle.sk_model.specs.declared.reply.ErrWord.{ErrWord}
@@ -22,7 +22,7 @@ use Rattle.sk_model.specs.declared.reply.Reply.TheVariants as reply
 use Rattle.sk_model.specs.Database.{RowOf, KeyedRows, Tables, table_of}
 use Rattle.sk_model.specs.Names.{table_at, columns_at, cond_known, names_known, sets_known, sets_twice, sets_key}
 use Rattle.sk_model.specs.Sorts.{have_sorts, is_condition, sets_sorts}
-use Rattle.sk_model.specs.Reads.{rows_taken, picked}
+use Rattle.sk_model.specs.Reads.{key_asked, rows_read, rows_met, picked}
 use Rattle.sk_model.specs.Changes.{new_rows}
 
 -- a reply, and the writes that come with it
@@ -46,65 +46,105 @@ has_room row = nat_le (sum_by encoded_len row) 1024
 abbrev pub key_of : RowOf → Value
 key_of row = get_or row 0 (value.Bool false)
 
--- INSERT of these values into table t
-unfoldable pub insert_answer : List Column → KeyedRows → ℕ → List Value → Answer
-insert_answer columns rows t values =
-    if not (have_sorts values columns) then refused err.Type
-    else if is_some (find value_cmp (key_of values) rows) then refused err.Duplicate
-    else if not (has_room values) then refused err.Size
-    else (reply.Count 1, row_put t (key_of values, values) ∷ [])
+-- why INSERT of these values is refused whatever rows there are
+unfoldable pub insert_refusal : List Column → List Value → Option ErrWord
+insert_refusal columns values = if have_sorts values columns then None else Some err.Type
+
+-- why SELECT of these columns is refused whatever rows there are
+unfoldable pub select_refusal : List Column → Option (List (List ℕ)) → Option Expr → Option ErrWord
+select_refusal columns names e =
+    if not (names_known columns names && cond_known columns e) then Some err.Column
+    else if not (is_condition columns e) then Some err.Type
+    else None
+
+-- why UPDATE of these columns is refused whatever rows there are
+unfoldable pub update_refusal : List Column → List SetItem → Option Expr → Option ErrWord
+update_refusal columns sets e =
+    if not (sets_known columns sets && cond_known columns e) || sets_twice sets then Some err.Column
+    else if sets_key columns sets then Some err.Key
+    else if not (sets_sorts columns sets && is_condition columns e) then Some err.Type
+    else None
+
+-- why DELETE is refused whatever rows there are
+unfoldable pub delete_refusal : List Column → Option Expr → Option ErrWord
+delete_refusal columns e =
+    if not (cond_known columns e) then Some err.Column
+    else if not (is_condition columns e) then Some err.Type
+    else None
+
+-- why a statement is refused whatever rows its table has
+abbrev pub refusal_in : List Column → Statement → Option ErrWord
+refusal_in columns (statement.Begin begun) = None
+refusal_in columns statement.Commit = None
+refusal_in columns statement.Rollback = None
+refusal_in columns (statement.Insert table values) = insert_refusal columns values
+refusal_in columns (statement.Select table names e) = select_refusal columns names e
+refusal_in columns (statement.Update table sets e) = update_refusal columns sets e
+refusal_in columns (statement.Delete table e) = delete_refusal columns e
+
+-- the one key that a statement reads, or none where it reads all rows
+abbrev pub key_read : List Column → Statement → Option Value
+key_read columns (statement.Begin begun) = None
+key_read columns statement.Commit = None
+key_read columns statement.Rollback = None
+key_read columns (statement.Insert table values) = Some (key_of values)
+key_read columns (statement.Select table names e) = key_asked columns e
+key_read columns (statement.Update table sets e) = key_asked columns e
+key_read columns (statement.Delete table e) = key_asked columns e
+
+-- INSERT of these values, where these rows of its key were found
+abbrev pub inserted : ℕ → List Value → KeyedRows → Answer
+inserted t values [] = if has_room values then (reply.Count 1, row_put t (key_of values, values) ∷ []) else refused err.Size
+inserted t values (r ∷ rs) = refused err.Duplicate
 
 -- these rows were found, or a condition overflowed
 abbrev pub shown : List Column → Option (List (List ℕ)) → Result KeyedRows ValueFault → Answer
 shown columns names (Err fault) = refused err.Overflow
 shown columns names (Ok rows) = (reply.Rows (map (λ r. picked columns names r.1) rows), [])
 
--- SELECT of these columns, of the rows that the condition takes
-unfoldable pub select_answer : List Column → KeyedRows → Option (List (List ℕ)) → Option Expr → Answer
-select_answer columns rows names e =
-    if not (names_known columns names && cond_known columns e) then refused err.Column
-    else if not (is_condition columns e) then refused err.Type
-    else shown columns names (rows_taken columns e rows)
-
 -- these are the new rows, or something overflowed
 abbrev pub updated : ℕ → Result KeyedRows ValueFault → Answer
 updated t (Err fault) = refused err.Overflow
 updated t (Ok rows) = if list_all (λ r. has_room r.1) rows then (reply.Count (length rows), map (row_put t) rows) else refused err.Size
-
--- UPDATE of table t: of the rows that the condition takes
-unfoldable pub update_answer : List Column → KeyedRows → ℕ → List SetItem → Option Expr → Answer
-update_answer columns rows t sets e =
-    if not (sets_known columns sets && cond_known columns e) || sets_twice sets then refused err.Column
-    else if sets_key columns sets then refused err.Key
-    else if not (sets_sorts columns sets && is_condition columns e) then refused err.Type
-    else updated t (rows_taken columns e rows >>= new_rows columns sets)
 
 -- these rows are to go, or a condition overflowed
 abbrev pub deleted : ℕ → Result KeyedRows ValueFault → Answer
 deleted t (Err fault) = refused err.Overflow
 deleted t (Ok rows) = (reply.Count (length rows), map (row_gone t) rows)
 
--- DELETE from table t of the rows that the condition takes
-unfoldable pub delete_answer : List Column → KeyedRows → ℕ → Option Expr → Answer
-delete_answer columns rows t e =
-    if not (cond_known columns e) then refused err.Column
-    else if not (is_condition columns e) then refused err.Type
-    else deleted t (rows_taken columns e rows)
+-- what a statement that is not refused comes to, over the rows that it read of table t
+abbrev pub comes_to : List Column → ℕ → Statement → KeyedRows → Answer
+comes_to columns t (statement.Begin begun) rows = refused err.Table
+comes_to columns t statement.Commit rows = refused err.Table
+comes_to columns t statement.Rollback rows = refused err.Table
+comes_to columns t (statement.Insert table values) rows = inserted t values rows
+comes_to columns t (statement.Select table names e) rows = shown columns names (rows_met columns e rows)
+comes_to columns t (statement.Update table sets e) rows = updated t (rows_met columns e rows >>= new_rows columns sets)
+comes_to columns t (statement.Delete table e) rows = deleted t (rows_met columns e rows)
+
+-- the answer of a table with these rows, where this refuses the statement before they are read
+abbrev pub answer_in : List Column → ℕ → Statement → KeyedRows → Option ErrWord → Answer
+answer_in columns t s rows (Some word) = refused word
+answer_in columns t s rows None = comes_to columns t s (rows_read rows (key_read columns s))
 
 -- the answer of a table, where it is there
-abbrev pub on_table : (ℕ → Answer) → Option ℕ → Answer
-on_table answer None = refused err.Table
-on_table answer (Some t) = answer t
+abbrev pub answer_on : List Table → Tables → Statement → Option ℕ → Answer
+answer_on catalog db s None = refused err.Table
+answer_on catalog db s (Some t) = answer_in (columns_at catalog t) t s (table_of db t) (refusal_in (columns_at catalog t) s)
+
+-- the table that a statement names, where it is the database that answers
+abbrev pub table_said : Statement → Option (List ℕ)
+table_said (statement.Begin begun) = None
+table_said statement.Commit = None
+table_said statement.Rollback = None
+table_said (statement.Insert table values) = Some table
+table_said (statement.Select table names e) = Some table
+table_said (statement.Update table sets e) = Some table
+table_said (statement.Delete table e) = Some table
 
 -- what the database answers, where it is the database that answers
 abbrev pub answer_of : List Table → Tables → Statement → Option Answer
-answer_of catalog db (statement.Begin begun) = None
-answer_of catalog db statement.Commit = None
-answer_of catalog db statement.Rollback = None
-answer_of catalog db (statement.Insert table values) = Some (on_table (λ t. insert_answer (columns_at catalog t) (table_of db t) t values) (table_at catalog table))
-answer_of catalog db (statement.Select table names e) = Some (on_table (λ t. select_answer (columns_at catalog t) (table_of db t) names e) (table_at catalog table))
-answer_of catalog db (statement.Update table sets e) = Some (on_table (λ t. update_answer (columns_at catalog t) (table_of db t) t sets e) (table_at catalog table))
-answer_of catalog db (statement.Delete table e) = Some (on_table (λ t. delete_answer (columns_at catalog t) (table_of db t) t e) (table_at catalog table))
+answer_of catalog db s = option_map (λ name. answer_on catalog db s (table_at catalog name)) (table_said s)
 
 abbrev pub reply_of : List Table → Tables → Statement → Option Reply
 reply_of catalog db s = option_map (λ a. a.0) (answer_of catalog db s)
