@@ -5,7 +5,7 @@ ghost use Rattle.std.specs.FinMap.{IsAntisymmetric};
 ghost use Rattle.sk_rows.specs.Values.{value_cmp};
 
 /// The order of values is total, and values that tie in it are one.
-#[tactic(auto, using(crate::proofs::Orders::value_laws))]
+#[tactic(auto, using(crate::specs::Orders::value_laws))]
 pub fn values_are_ordered()
     ensures total { IsTotalOrder value_cmp }
     ensures exact { IsAntisymmetric value_cmp }

@@ -10,6 +10,7 @@ mod laws;
 mod list;
 mod memory;
 mod names;
+mod order;
 mod statement;
 mod table;
 mod text;
