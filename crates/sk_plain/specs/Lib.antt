@@ -1,2 +1,4 @@
+pub mod Before
+pub mod Maps
 pub mod Session
 pub mod Standing

@@ -1,0 +1,125 @@
+//! Tables as ordered maps.
+
+ghost use Rattle.std.specs.Prelude.{◌≡◌, ◌∷◌, ◌++◌, [], not, IfOk, OnOk};
+ghost use Rattle.std.specs.Option.{option_copied};
+ghost use Rattle.std.specs.Ordering.{eq_by_cmp};
+ghost use Rattle.std.specs.FinMap.{find, put};
+ghost use Rattle.std.specs.FinMap.Entries.{where_key};
+ghost use Rattle.sk_rows.specs.Values.{value_cmp};
+ghost use Rattle.sk_model.specs.Database as spec;
+ghost use Rattle.sk_model.specs.Reads.{rows_read};
+ghost use Rattle.sk_plain.specs.Maps.{shown};
+
+use sk_model::KeyedRows;
+use sk_rows::{Copies, NoMemory, Row, Value};
+use std::alloc::Global;
+use std::collections::BTreeMap;
+
+/// The rows of a table by their keys.
+pub(crate) type RowMap = BTreeMap<Value, Row>;
+
+#[tactic(auto, using(crate::proofs::Entries::find_is))]
+fn row_in<'a>(rows: &'a RowMap, key: &Value) -> Option<&'a Row>
+    ensures { option_copied result ≡ find value_cmp key.now rows.now.entries }
+{
+    rows.get(key)
+}
+
+#[tactic(auto, using(crate::proofs::Entries::put_is))]
+fn put_in(rows: &mut RowMap, key: Value, row: Row) -> Result<(), NoMemory>
+    ensures { OnOk result (rows.new.entries ≡ put value_cmp key row rows.old.entries) }
+{
+    rows.insert(key, row)?;
+    Ok(())
+}
+
+#[tactic(auto, using(crate::proofs::Entries::none_removed))]
+fn remove_in(rows: &mut RowMap, key: &Value)
+    ensures { rows.new.entries ≡ where_key value_cmp (λ k. not (eq_by_cmp value_cmp key.now k)) rows.old.entries }
+{
+    // Asked for its length, a map says that its keys rise.
+    if rows.len() > 0 {
+        rows.remove(key);
+    }
+}
+
+/// Gives one key a row or none.
+fn set_in(rows: &mut RowMap, key: Value, row: Option<Row>) -> Result<(), NoMemory>
+    ensures { OnOk result (rows.new.entries ≡ spec.rows_with rows.old.entries key row) }
+{
+    match row {
+        None => {
+            remove_in(rows, &key);
+            Ok(())
+        }
+        Some(row) => put_in(rows, key, row),
+    }
+}
+
+/// The row of a table and a key, if there is one.
+pub(crate) fn row_of<'a>(tables: &'a [RowMap], table: u16, key: &Value) -> Option<&'a Row>
+    ensures { option_copied result ≡ spec.row_of (shown tables.now) table key.now }
+{
+    match tables.get(table as usize) {
+        None => None,
+        Some(rows) => row_in(rows, key),
+    }
+}
+
+/// Gives one row of a table a new content or none. Where memory is wanted, no more is said of the tables.
+#[tactic(auto, using(crate::proofs::Shown::set_shown))]
+pub(crate) fn set_row(
+    tables: &mut Vec<RowMap>,
+    table: u16,
+    key: Value,
+    row: Option<Row>,
+) -> Result<(), NoMemory>
+    ensures { OnOk result (shown tables.new.items ≡ spec.after_write (shown tables.old.items) (record { table = table; key = key; row = row })) }
+{
+    match tables.get_mut(table as usize) {
+        None => Ok(()),
+        Some(rows) => {
+            set_in(rows, key, row)?;
+            Ok(())
+        }
+    }
+}
+
+fn all_rows(alloc: Global, rows: &RowMap) -> Result<KeyedRows, NoMemory>
+    ensures { IfOk result (λ list. list ≡ rows.now.entries) }
+{
+    let mut out = KeyedRows::new(alloc);
+    for (key, row) in rows {
+        out.push((key.copy(alloc)?, row.copy(alloc)?))?;
+    }
+    Ok(out)
+}
+
+fn one_row(alloc: Global, rows: &RowMap, key: &Value) -> Result<KeyedRows, NoMemory>
+    ensures { IfOk result (λ list. list ≡ rows_read rows.now.entries (Some key.now)) }
+{
+    let mut out = KeyedRows::new(alloc);
+    match row_in(rows, key) {
+        None => Ok(out),
+        Some(row) => {
+            out.push((key.copy(alloc)?, row.copy(alloc)?))?;
+            Ok(out)
+        }
+    }
+}
+
+/// Copies of the rows that are read of a table: that of the one key, or all.
+pub(crate) fn read(
+    alloc: Global,
+    tables: &[RowMap],
+    table: u16,
+    key: Option<&Value>,
+) -> Result<KeyedRows, NoMemory>
+    ensures { IfOk result (λ rows. rows ≡ rows_read (spec.table_of (shown tables.now) table) (option_copied key.entry)) }
+{
+    match (tables.get(table as usize), key) {
+        (None, _) => Ok(KeyedRows::new(alloc)),
+        (Some(rows), None) => all_rows(alloc, rows),
+        (Some(rows), Some(key)) => one_row(alloc, rows, key),
+    }
+}
