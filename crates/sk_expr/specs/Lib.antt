@@ -1,1 +1,4 @@
+pub mod Changed
+pub mod Extended
+pub mod Shapes
 pub mod Sound

@@ -1,11 +1,11 @@
 //! The value of an expression.
 
-ghost use Rattle.std.specs.Prelude.{◌≡◌, position, slice_get, option_and_then, ◌+ℤ◌, ◌-ℤ◌, ◌*ℤ◌};
+ghost use Rattle.std.specs.Prelude.{◌≡◌, IfOk, Ok, position, slice_get, option_and_then, ◌+ℤ◌, ◌-ℤ◌, ◌*ℤ◌};
 ghost use Rattle.std.specs.Option.{option_copied};
 ghost use Rattle.std.specs.Str.{bytes_eq};
 ghost use Rattle.sk_rows.specs.Evaluation.{Gives, column_value as column_value_of, compute as compute_of, holds_in, in_64, int_of as int_of_value, is_true as is_true_of, value_in};
 
-use sk_rows::{Column, Copies, Expr, Op, Row, Table, Txt, Value, ValueFault};
+use sk_rows::{Column, Copies, Expr, NoMemory, Op, Row, Table, Txt, Value, ValueFault};
 use std::alloc::Global;
 
 fn int_of(value: &Value) -> i64
@@ -81,8 +81,23 @@ fn cell<'a>(name: &Txt, columns: &[Column], row: &'a [Value]) -> Option<&'a Valu
     }
 }
 
+/// A copy of the value in the column of this name; where there is none, FALSE.
 #[tactic(auto, unfolding(sk_rows::specs::Evaluation::column_value))]
-fn column_value(
+pub(crate) fn column_value(
+    alloc: Global,
+    name: &Txt,
+    columns: &[Column],
+    row: &[Value],
+) -> Result<Value, NoMemory>
+    ensures { IfOk result (λ v. v ≡ column_value_of name.now columns.now row.now) }
+{
+    match cell(name, columns, row) {
+        Some(value) => value.copy(alloc),
+        None => Ok(Value::Bool(false)),
+    }
+}
+
+fn value_in_column(
     alloc: Global,
     name: &Txt,
     columns: &[Column],
@@ -90,16 +105,51 @@ fn column_value(
 ) -> Result<Value, ValueFault>
     ensures { Gives result (Ok (column_value_of name.now columns.now row.now)) }
 {
-    match cell(name, columns, row) {
-        Some(value) => copied(alloc, value),
-        None => Ok(Value::Bool(false)),
-    }
+    column_value(alloc, name, columns, row).map_err(|_| ValueFault::NoMemory)
 }
 
-fn copied(alloc: Global, value: &Value) -> Result<Value, ValueFault>
+/// A copy of the value.
+pub(crate) fn copied(alloc: Global, value: &Value) -> Result<Value, ValueFault>
     ensures { Gives result (Ok value.now) }
 {
     value.copy(alloc).map_err(|_| ValueFault::NoMemory)
+}
+
+/// The value of an expression over a row with these columns.
+pub(crate) fn value_over(
+    alloc: Global,
+    expr: &Expr,
+    columns: &[Column],
+    row: &[Value],
+) -> Result<Value, ValueFault>
+    ensures { Gives result (value_in columns.now row.now expr.now) }
+{
+    match expr {
+        Expr::Lit(v) => copied(alloc, v),
+        Expr::Col(name) => value_in_column(alloc, name, columns, row),
+        Expr::Not(a) => {
+            let v = value_over(alloc, a.get(), columns, row)?;
+            Ok(Value::Bool(!is_true(&v)))
+        }
+        Expr::Two(op, a, b) => {
+            let x = value_over(alloc, a.get(), columns, row)?;
+            let y = value_over(alloc, b.get(), columns, row)?;
+            compute(*op, &x, &y)
+        }
+    }
+}
+
+/// Whether a row with these columns meets the condition.
+pub(crate) fn holds_over(
+    alloc: Global,
+    cond: &Expr,
+    columns: &[Column],
+    row: &[Value],
+) -> Result<bool, ValueFault>
+    ensures { Gives result (holds_in columns.now row.now cond.now) }
+{
+    let v = value_over(alloc, cond, columns, row)?;
+    Ok(is_true(&v))
 }
 
 /// The value of an expression over a row of its table. Both sides of an operator are computed, the left one first.
@@ -113,19 +163,7 @@ fn copied(alloc: Global, value: &Value) -> Result<Value, ValueFault>
 pub fn value(alloc: Global, expr: &Expr, table: &Table, row: &Row) -> Result<Value, ValueFault>
     ensures { Gives result (value_in table.now.columns row.now expr.now) }
 {
-    match expr {
-        Expr::Lit(v) => copied(alloc, v),
-        Expr::Col(name) => column_value(alloc, name, table.columns.as_slice(), row.as_slice()),
-        Expr::Not(a) => {
-            let v = value(alloc, a.get(), table, row)?;
-            Ok(Value::Bool(!is_true(&v)))
-        }
-        Expr::Two(op, a, b) => {
-            let x = value(alloc, a.get(), table, row)?;
-            let y = value(alloc, b.get(), table, row)?;
-            compute(*op, &x, &y)
-        }
-    }
+    value_over(alloc, expr, table.columns.as_slice(), row.as_slice())
 }
 
 /// Whether the row meets the condition, an expression of sort Bool.
@@ -136,6 +174,5 @@ pub fn value(alloc: Global, expr: &Expr, table: &Table, row: &Row) -> Result<Val
 pub fn holds(alloc: Global, cond: &Expr, table: &Table, row: &Row) -> Result<bool, ValueFault>
     ensures { Gives result (holds_in table.now.columns row.now cond.now) }
 {
-    let v = value(alloc, cond, table, row)?;
-    Ok(is_true(&v))
+    holds_over(alloc, cond, table.columns.as_slice(), row.as_slice())
 }

@@ -12,7 +12,7 @@ enum Wanted {
     TypeMismatch,
 }
 
-fn text(rt: &HostRuntime, word: &[u8]) -> Result<Txt, Fail> {
+pub(crate) fn text(rt: &HostRuntime, word: &[u8]) -> Result<Txt, Fail> {
     let bytes = word.to_vec(rt.alloc())?;
     match Txt::from_vec(bytes) {
         Ok(text) => Ok(text),
@@ -104,7 +104,7 @@ fn put_word(rt: &HostRuntime, stack: &mut Vec<Expr>, word: &str) -> Result<(), F
 }
 
 // The expression of these words, each operator behind its sides.
-fn expr(rt: &HostRuntime, words: &str) -> Result<Expr, Fail> {
+pub(crate) fn expr(rt: &HostRuntime, words: &str) -> Result<Expr, Fail> {
     let mut stack = Vec::new(rt.alloc());
     for word in words.split(' ') {
         put_word(rt, &mut stack, word)?;

@@ -8,7 +8,7 @@ ghost use Rattle.sk_rows.specs.Typing.{column_sort as column_sort_of, not_sort a
 use sk_rows::{Column, Expr, Op, Sort, Table, Txt, TypeFault};
 
 #[tactic(auto, unfolding(sk_rows::specs::Typing::column_sort))]
-fn column_sort(name: &Txt, columns: &[Column]) -> Option<Sort>
+pub(crate) fn column_sort(name: &Txt, columns: &[Column]) -> Option<Sort>
     ensures { result ≡ column_sort_of name.now columns.now }
 {
     let column = find_column(name, columns)?;
@@ -21,7 +21,7 @@ fn find_column<'a>(name: &Txt, columns: &'a [Column]) -> Option<&'a Column>
     columns.iter().find(|c| c.name.is_same(name))
 }
 
-fn same_sort(s: Sort, t: Sort) -> bool
+pub(crate) fn same_sort(s: Sort, t: Sort) -> bool
     ensures { result ≡ same_sort_of s t }
 {
     match (s, t) {
@@ -72,6 +72,25 @@ fn not_sort(s: Sort) -> Result<Sort, TypeFault>
     }
 }
 
+/// The sort of an expression over these columns, or the first fault.
+pub(crate) fn sort_over(expr: &Expr, columns: &[Column]) -> Result<Sort, TypeFault>
+    ensures { result ≡ sort_in columns.now expr.now }
+{
+    match expr {
+        Expr::Lit(value) => Ok(value.sort()),
+        Expr::Col(name) => column_sort(name, columns).ok_or(TypeFault::UnknownColumn),
+        Expr::Not(a) => {
+            let s = sort_over(a.get(), columns)?;
+            not_sort(s)
+        }
+        Expr::Two(op, a, b) => {
+            let s = sort_over(a.get(), columns)?;
+            let t = sort_over(b.get(), columns)?;
+            two_sort(*op, s, t)
+        }
+    }
+}
+
 /// The sort of an expression over a table's columns.
 ///
 /// # Errors
@@ -80,19 +99,5 @@ fn not_sort(s: Sort) -> Result<Sort, TypeFault>
 pub fn type_check(expr: &Expr, table: &Table) -> Result<Sort, TypeFault>
     ensures { result ≡ sort_in table.now.columns expr.now }
 {
-    match expr {
-        Expr::Lit(value) => Ok(value.sort()),
-        Expr::Col(name) => {
-            column_sort(name, table.columns.as_slice()).ok_or(TypeFault::UnknownColumn)
-        }
-        Expr::Not(a) => {
-            let s = type_check(a.get(), table)?;
-            not_sort(s)
-        }
-        Expr::Two(op, a, b) => {
-            let s = type_check(a.get(), table)?;
-            let t = type_check(b.get(), table)?;
-            two_sort(*op, s, t)
-        }
-    }
+    sort_over(expr, table.columns.as_slice())
 }
