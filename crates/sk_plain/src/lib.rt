@@ -1,8 +1,13 @@
 //! One session, played over a plain list of commits.
 #![tactic(auto)]
 
+mod asking;
 mod before;
+mod desk;
+mod ending;
+mod live;
 mod maps;
 mod played;
+mod turn;
 
-pub use played::{Played, ReplyList};
+pub use played::Played;

@@ -1,10 +1,6 @@
 //! What a run comes to.
 
-use sk_model::{CommitList, PlaceList, RecordList, Reply};
-use sk_rows::List;
-
-/// Replies, one a statement.
-pub type ReplyList = List<Reply>;
+use sk_model::{CommitList, PlaceList, RecordList, ReplyList};
 
 /// What the statements of one session come to.
 #[derive(Drop)]
