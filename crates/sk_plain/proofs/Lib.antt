@@ -1,4 +1,14 @@
 pub mod Entries
 pub mod Shown
-pub mod NetWrites
 pub mod RowWrites
+pub mod NetWrites
+pub mod Agreeing
+pub mod Telling
+pub mod Underway
+pub mod Unwanted
+pub mod Growing
+pub mod Settled
+pub mod Closing
+pub mod Endings
+pub mod Answering
+pub mod Promise
