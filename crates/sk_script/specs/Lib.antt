@@ -4,3 +4,4 @@ pub mod Header
 pub mod Body
 pub mod Script
 pub mod Words
+pub mod Text

@@ -1,4 +1,3 @@
-pub mod Text
 pub mod Words
 pub mod Form
 pub mod Script

@@ -1,16 +1,20 @@
 -- What a run answers and prints, and what it takes of its source.
-use Rattle.std.specs.Prelude.{◌≡◌, ◌⊎◌, ◌↔◌, ℕ, ◌<◌, ◌≤◌, List, [], ◌∷◌, ◌++◌, Option, Result, Ok, Err, Bool, true, false, length, take, IfSome, codes, ◌==◌}
-use Rattle.std.specs.List.{list_any}
+use Rattle.std.specs.Prelude.{◌≡◌, ◌⊎◌, ◌↔◌, ℕ, ◌<◌, ◌≤◌, List, [], ◌∷◌, ◌++◌, Option, Result, Ok, Err, Bool, true, false, length, take, map, IfSome, codes, ◌==◌}
+use Rattle.std.specs.List.{flat_map, list_any}
 use Rattle.std.specs.Fmt.{decimal}
 use Rattle.std.specs.Io.KnownBytes.{Appends, Consumes, IsAtEnd}
 use Rattle.sk_outside.specs.Causes.{Rose}
 use Rattle.sk_outside.specs.Pieces.{AppendsFront}
+use Rattle.sk_model.specs.declared.commit.Commit.{Commit}
 use Rattle.sk_model.specs.declared.outcome.Outcome.{Outcome}
+use Rattle.sk_model.specs.declared.record.Record.{Record}
+use Rattle.sk_model.specs.declared.record.Said.{Said}
+use Rattle.sk_model.specs.declared.reply.Reply.{Reply}
+use Rattle.sk_script.specs.Text.{replies_text, report}
 use Rattle.sk_serial.specs.declared.plain.PlainScript.{PlainScript}
 use Rattle.sk_serial.specs.declared.playing.Played.{Played}
 use Rattle.sk_serial.specs.declared.running.Stop.{Stop}
 use Rattle.sk_serial.specs.declared.running.Stop.TheVariants as stop
-use Rattle.sk_serial.specs.Text.{report}
 use Rattle.sk_serial.specs.Script.{script_of}
 use Rattle.sk_serial.specs.Played.{IsPlayed}
 
@@ -88,8 +92,20 @@ is_status n = list_any (λ status. status == n) (0 ∷ 2 ∷ 3 ∷ 4 ∷ 5 ∷ 8
 abbrev pub played_in : Outcome → Played
 played_in outcome = record { records = outcome.records; order = outcome.order; places = outcome.prefixes }
 
+-- replies, each with the session that they are to
+abbrev pub replies_to : ℕ → List Said → List (ℕ × Reply)
+replies_to session said = map (λ s. (session, s.reply)) said
+
+-- the replies of transactions, which are one session's and in order
+abbrev pub replies_in : List Record → List (ℕ × Reply)
+replies_in records = flat_map (λ r. replies_to r.label.session r.said) records
+
+-- the replies, and the report behind them
+abbrev pub run_text : List Record → List Commit → List ℕ → List ℕ
+run_text records order places = replies_text (replies_in records) ++ report order records places
+
 abbrev pub outcome_text : Outcome → List ℕ
-outcome_text outcome = report outcome.records outcome.order outcome.prefixes
+outcome_text outcome = run_text outcome.records outcome.order outcome.prefixes
 
 -- a fault's status and its text; for want of memory that of memory stands in its place
 abbrev pub IsPrinted : ℕ → List ℕ → ℕ → Option (List ℕ) → Option (List ℕ) → ℕ → ℕ → Type 0

@@ -2,11 +2,10 @@
 #![tactic(auto)]
 
 mod form;
-mod pieces;
 mod plain;
 mod playing;
-mod report;
 mod running;
+mod text;
 mod words;
 
 pub use running::run_script;

@@ -5,13 +5,12 @@ ghost use Rattle.std.specs.Io.KnownBytes.{Appends};
 ghost use Rattle.std.specs.String.{string_bytes};
 ghost use Rattle.sk_outside.specs.Causes.{Rose};
 ghost use Rattle.sk_outside.specs.Pieces.{AppendsFront, ConsumesAtMost};
-ghost use Rattle.sk_serial.specs.Text as text;
 ghost use Rattle.sk_serial.specs.Words as word;
 ghost use Rattle.sk_serial.specs.Running as spec;
 
 use crate::plain::{PlainFault, PlainScript, read_plain};
 use crate::playing::{Played, play};
-use crate::report::report;
+use crate::text::run_text;
 use crate::words::is_run;
 use sk_model::{CommitList, Outcome, PlaceList, RecordList};
 use sk_outside::{ReadError, Sink, Source, read_whole, write_whole};
@@ -161,7 +160,7 @@ fn stop_at<K: Sink>(alloc: Global, stop: Stop, sink: &mut K) -> Outcome
 fn finish<K: Sink>(alloc: Global, played: Played, sink: &mut K) -> Outcome
     ensures { spec.IsFinished played result (K.written sink.old) (K.written sink.new) (K.faults sink.old) (K.faults sink.new) }
 {
-    let text = match report(
+    let text = match run_text(
         alloc,
         played.records.as_slice(),
         played.order.as_slice(),

@@ -1,6 +1,6 @@
 use Rattle.std.proofs.Common.{append_assoc}
-use Rattle.sk_serial.specs.Text.{failed_at}
-use Rattle.sk_serial.proofs.report.put_failed_at.Goals as goal
+use Rattle.sk_script.specs.Text.{failed_at}
+use Rattle.sk_script.proofs.replies.put_failed_at.Goals as goal
 
 pub returns : goal.returns
 unfolding failed_at

@@ -4,7 +4,7 @@ ghost use Rattle.std.specs.Prelude.{◌≡◌, ◌++◌, ◌<◌, OnOk};
 ghost use Rattle.std.specs.List.{flat_map};
 ghost use Rattle.std.specs.String.{string_bytes};
 ghost use Rattle.sk_rows.specs.Text.{ArePrintable};
-ghost use Rattle.sk_serial.specs.Text as spec;
+ghost use Rattle.sk_script.specs.Text as spec;
 
 use sk_model::{Ending, EngineName, ErrWord, Label, StepName, TxKind, Why};
 use sk_rows::{NoMemory, Value};

@@ -1,8 +1,8 @@
 use Rattle.std.proofs.Common.{◌≡◌, ◌++◌, take}
 use Rattle.std.specs.List.{flat_map}
 use Rattle.std.specs.String.{string_bytes}
-use Rattle.sk_serial.specs.Text.{order_line}
-use Rattle.sk_serial.proofs.report.put_order.Given as goal
+use Rattle.sk_script.specs.Text.{order_line}
+use Rattle.sk_script.proofs.report.put_order.Given as goal
 
 -- The commits before this one are written.
 abbrev pub invariant-loop-commit : goal.invariant-loop-commit

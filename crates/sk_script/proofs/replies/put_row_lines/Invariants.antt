@@ -1,7 +1,7 @@
 use Rattle.std.proofs.Common.{◌≡◌, ◌++◌, take}
 use Rattle.std.specs.String.{string_bytes}
-use Rattle.sk_serial.specs.Text.{row_lines}
-use Rattle.sk_serial.proofs.report.put_row_lines.Given as goal
+use Rattle.sk_script.specs.Text.{row_lines}
+use Rattle.sk_script.proofs.replies.put_row_lines.Given as goal
 
 -- The rows before this one are written.
 abbrev pub invariant-loop-row : goal.invariant-loop-row

@@ -1,4 +1,4 @@
--- The text that a run prints: replies in the order of their lines, the list of commits, the transactions.
+-- The texts that a run prints: the replies in the order of their lines, and then the report of its commits and transactions.
 use Rattle.std.specs.Prelude.{ℕ, List, [], ◌∷◌, ◌++◌, Option, Some, None, true, false, if◌then◌else◌, ◌==◌, length, codes}
 use Rattle.std.specs.List.{flat_map}
 use Rattle.std.specs.Fmt.{decimal, signed_decimal}
@@ -21,7 +21,6 @@ use Rattle.sk_model.specs.declared.record.TxKind.{TxKind}
 use Rattle.sk_model.specs.declared.record.TxKind.TheVariants as kind
 use Rattle.sk_model.specs.declared.record.Ending.{Ending}
 use Rattle.sk_model.specs.declared.record.Ending.TheVariants as ending
-use Rattle.sk_model.specs.declared.record.Said.{Said}
 use Rattle.sk_model.specs.declared.record.Record.{Record}
 
 -- a number, or `-` where there is none
@@ -128,15 +127,12 @@ abbrev pub rows_before : ℕ → Reply → List ℕ
 rows_before session (reply.Rows rows) = row_lines session rows
 rows_before session _ = []
 
-abbrev pub reply_lines : ℕ → Reply → List ℕ
+unfoldable pub reply_lines : ℕ → Reply → List ℕ
 reply_lines session reply = rows_before session reply ++ session_line session (reply_text reply)
 
-abbrev pub said_lines : ℕ → List Said → List ℕ
-said_lines session said = flat_map (λ s. reply_lines session s.reply) said
-
--- the replies of one transaction
-abbrev pub record_said : Record → List ℕ
-record_said r = said_lines r.label.session r.said
+-- the replies in the order of their lines, each with its line's session
+abbrev pub replies_text : List (ℕ × Reply) → List ℕ
+replies_text replies = flat_map (λ r. reply_lines r.0 r.1) replies
 
 abbrev pub order_line : Commit → List ℕ
 order_line c =
@@ -174,6 +170,10 @@ record_lines [] places = []
 record_lines (r ∷ rs) [] = []
 record_lines (r ∷ rs) (p ∷ ps) = record_line r p ++ record_lines rs ps
 
--- the whole text of a run of one session
-abbrev pub report : List Record → List Commit → List ℕ → List ℕ
-report records order places = flat_map record_said records ++ flat_map order_line order ++ record_lines records places
+-- what stands behind the replies: the list of commits, and the transactions with the lengths of the prefixes that they read
+unfoldable pub report : List Commit → List Record → List ℕ → List ℕ
+report order records places = flat_map order_line order ++ record_lines records places
+
+-- the one line of a run whose script has its first fault at this line and place
+unfoldable pub script_fault_text : ℕ → ℕ → List ℕ
+script_fault_text line place = codes "FAULT script " ++ decimal line ++ codes " " ++ decimal place ++ codes "\n"

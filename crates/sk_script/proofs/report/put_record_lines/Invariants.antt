@@ -1,7 +1,7 @@
 use Rattle.std.proofs.Common.{◌≡◌, ◌++◌, length}
 use Rattle.std.specs.String.{string_bytes}
-use Rattle.sk_serial.specs.Text.{record_lines}
-use Rattle.sk_serial.proofs.report.put_record_lines.Given as goal
+use Rattle.sk_script.specs.Text.{record_lines}
+use Rattle.sk_script.proofs.report.put_record_lines.Given as goal
 
 -- What is written and the lines to come make all lines.
 abbrev pub invariant-loop-records : goal.invariant-loop-records

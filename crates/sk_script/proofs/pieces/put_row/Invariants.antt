@@ -1,7 +1,7 @@
 use Rattle.std.proofs.Common.{◌≡◌, ◌++◌, take}
 use Rattle.std.specs.String.{string_bytes}
-use Rattle.sk_serial.specs.Text.{more_values}
-use Rattle.sk_serial.proofs.pieces.put_row.Given as goal
+use Rattle.sk_script.specs.Text.{more_values}
+use Rattle.sk_script.proofs.pieces.put_row.Given as goal
 
 -- The values before this one are written.
 abbrev pub invariant-loop-value : goal.invariant-loop-value

@@ -1,17 +1,14 @@
-//! The printed text of a run.
+//! The lines of a reply.
 
-ghost use Rattle.std.specs.Prelude.{◌≡◌, ◌++◌, OnOk, IfOk};
-ghost use Rattle.std.specs.List.{flat_map};
+ghost use Rattle.std.specs.Prelude.{◌≡◌, ◌++◌, OnOk};
 ghost use Rattle.std.specs.String.{string_bytes};
-ghost use Rattle.sk_serial.specs.Text as spec;
+ghost use Rattle.sk_script.specs.Text as spec;
 
 use crate::pieces::{
-    ending_word, engine_word, kind_word, put, put_drawn, put_label, put_number, put_row, put_two,
-    put_why, refusal_word, step_word,
+    engine_word, put, put_drawn, put_label, put_row, put_two, put_why, refusal_word, step_word,
 };
-use sk_model::{Commit, EngineName, Label, Point, Record, Recycled, Reply, Said, StepName, Why};
+use sk_model::{EngineName, Label, Point, Recycled, Reply, StepName, Why};
 use sk_rows::{NoMemory, Row};
-use std::alloc::Global;
 
 fn put_began(out: &mut String, label: Label) -> Result<(), NoMemory>
     ensures { OnOk result (string_bytes out.new ≡ string_bytes out.old ++ spec.reply_text (Reply.Began label)) }
@@ -138,108 +135,13 @@ fn put_rows_before(out: &mut String, session: u16, reply: &Reply) -> Result<(), 
     }
 }
 
-fn put_reply_lines(out: &mut String, session: u16, reply: &Reply) -> Result<(), NoMemory>
+/// Writes the lines of a reply to a line of this session: its rows one a line, if it has any, and the reply itself.
+#[tactic(auto, unfolding(crate::specs::Text::reply_lines))]
+pub fn put_reply_lines(out: &mut String, session: u16, reply: &Reply) -> Result<(), NoMemory>
     ensures { OnOk result (string_bytes out.new ≡ string_bytes out.old ++ spec.reply_lines session reply.now) }
 {
     put_rows_before(out, session, reply)?;
     write!(out, "{session}: ")?;
     put_reply(out, reply)?;
     put(out, "\n")
-}
-
-fn put_said_lines(out: &mut String, session: u16, said: &[Said]) -> Result<(), NoMemory>
-    ensures { OnOk result (string_bytes out.new ≡ string_bytes out.old ++ spec.said_lines session said.now) }
-{
-    for one in said {
-        put_reply_lines(out, session, &one.reply)?;
-    }
-    Ok(())
-}
-
-fn put_replies(out: &mut String, records: &[Record]) -> Result<(), NoMemory>
-    ensures { OnOk result (string_bytes out.new ≡ string_bytes out.old ++ flat_map spec.record_said records.now) }
-{
-    for record in records {
-        put_said_lines(out, record.label.session, record.said.as_slice())?;
-    }
-    Ok(())
-}
-
-fn put_order_line(out: &mut String, commit: &Commit) -> Result<(), NoMemory>
-    ensures { OnOk result (string_bytes out.new ≡ string_bytes out.old ++ spec.order_line commit.now) }
-{
-    put(out, "ORDER ")?;
-    put_label(out, commit.label)?;
-    put(out, " ")?;
-    put_number(out, commit.mem)?;
-    put(out, " ")?;
-    put_number(out, commit.store)?;
-    put(out, "\n")
-}
-
-fn put_order(out: &mut String, order: &[Commit]) -> Result<(), NoMemory>
-    ensures { OnOk result (string_bytes out.new ≡ string_bytes out.old ++ flat_map spec.order_line order.now) }
-{
-    for commit in order {
-        put_order_line(out, commit)?;
-    }
-    Ok(())
-}
-
-fn put_numbers(out: &mut String, mem: Option<u32>, store: Option<u32>) -> Result<(), NoMemory>
-    ensures { OnOk result (string_bytes out.new ≡ string_bytes out.old ++ spec.pair_text mem store) }
-{
-    put_number(out, mem)?;
-    put(out, " ")?;
-    put_number(out, store)
-}
-
-fn put_record_line(out: &mut String, of: &Record, place: u32) -> Result<(), NoMemory>
-    ensures { OnOk result (string_bytes out.new ≡ string_bytes out.old ++ spec.record_line of.now place) }
-{
-    put(out, "TX ")?;
-    put_label(out, of.label)?;
-    put(out, " ")?;
-    put(out, kind_word(of.kind))?;
-    put(out, " ")?;
-    put_numbers(out, of.mem, of.store)?;
-    write!(out, " {place} ")?;
-    put(out, ending_word(of.ending))?;
-    put(out, " ")?;
-    put_numbers(out, of.drew_mem, of.drew_store)?;
-    put(out, " -\n")
-}
-
-fn put_record_lines(
-    out: &mut String,
-    mut records: &[Record],
-    mut places: &[u32],
-) -> Result<(), NoMemory>
-    ensures { OnOk result (string_bytes out.new ≡ string_bytes out.old ++ spec.record_lines records.entry.now places.entry.now) }
-{
-    while let [first, more @ ..] = records {
-        let [place, rest @ ..] = places else {
-            return Ok(());
-        };
-        put_record_line(out, first, *place)?;
-        records = more;
-        places = rest;
-    }
-    Ok(())
-}
-
-/// The whole text of a run of one session: the replies, the list of commits, the transactions with the lengths of their prefixes.
-pub fn report(
-    alloc: Global,
-    records: &[Record],
-    order: &[Commit],
-    places: &[u32],
-) -> Result<String, NoMemory>
-    ensures { IfOk result (λ text. string_bytes text ≡ spec.report records.now order.now places.now) }
-{
-    let mut out = String::new(alloc);
-    put_replies(&mut out, records)?;
-    put_order(&mut out, order)?;
-    put_record_lines(&mut out, records, places)?;
-    Ok(out)
 }
