@@ -1,2 +1,17 @@
+pub mod Lists
+pub mod Numbers
+pub mod Labels
+pub mod Lookups
+pub mod Nets
+pub mod Quiet
+pub mod Order
+pub mod Numbered
+pub mod Reading
+pub mod Own
+pub mod Journals
+pub mod Listed
+pub mod Stamping
+pub mod Fitting
+mod EngineRows
 pub mod Layers
 mod Rows

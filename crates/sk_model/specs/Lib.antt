@@ -3,5 +3,14 @@ pub mod Database
 pub mod Names
 pub mod Reads
 pub mod Records
+pub mod Numbers
+pub mod Engine
+pub mod EngineReplies
+pub mod EngineChanges
+pub mod EngineConditions
+pub mod Legal
+pub mod Calls
+pub mod Stamped
+pub mod EngineLaws
 pub mod Replies
 pub mod Sorts

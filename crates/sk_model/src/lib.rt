@@ -1,9 +1,11 @@
 //! One database with one list of commits: the definitions on which every promise rests, and the types that layers share.
 #![tactic(auto)]
 
+mod call;
 mod commit;
 mod engine;
 mod label;
+mod laws;
 mod outcome;
 mod point;
 mod record;
@@ -11,9 +13,14 @@ mod reply;
 mod step;
 mod tables;
 
+pub use call::{EngineCall, EngineFault, EngineReply, Entry, Journal};
 pub use commit::{Commit, CommitList, Write, WriteList};
 pub use engine::EngineName;
 pub use label::Label;
+pub use laws::{
+    journal_grows, own_writes, reads_snapshot, rows_fit, stamped_are_commits, stamped_at_snapshot,
+    versions_rise,
+};
 pub use outcome::{Outcome, PlaceList};
 pub use point::{Point, PointList, Recycled};
 pub use record::{Ending, Record, RecordList, Said, SaidList, TxKind};

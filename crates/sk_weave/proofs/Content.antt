@@ -9,14 +9,15 @@ use Rattle.sk_model.specs.declared.commit.Write.{Write}
 use Rattle.sk_model.specs.declared.commit.Commit.{Commit}
 use Rattle.sk_model.specs.declared.point.Point.{Point}
 use Rattle.sk_weave.specs.Points.{Climbs, before_a, before_b}
-use Rattle.sk_weave.specs.Weave.{there, mem_within, store_within, mem_past, store_past, with_writes, merged, cross, weave_from}
-use Rattle.sk_weave.specs.Woven.{Rises, MemOk, StoreOk, MatchedAt, Matched, Part, parts_at, own_writes}
-use Rattle.sk_weave.proofs.Lists.{Each, each_append, each_weaker, each_filter}
-use Rattle.sk_weave.proofs.Numbers.{there_is, past_cut, past_one}
+use Rattle.sk_model.specs.Numbers.{there, Rises}
+use Rattle.sk_weave.specs.Weave.{mem_within, store_within, mem_past, store_past, with_writes, merged, cross, weave_from}
+use Rattle.sk_weave.specs.Woven.{MemOk, StoreOk, MatchedAt, Matched, Part, parts_at, own_writes}
+use Rattle.sk_model.proofs.Lists.{Each, each_append, each_weaker, each_filter}
+use Rattle.sk_model.proofs.Numbers.{there_is, past_cut, past_one}
 use Rattle.sk_weave.proofs.Merging.{merged_first, merged_second}
 use Rattle.sk_weave.proofs.Splits.{MemAlone, gap_mem, StoreAlone, gap_store, none_from, mem_ok_next, store_ok_next}
 
--- whether a table is one of S
+-- whether a table is one of the storage engine's
 module _ (is_store : ℕ → Bool) where
   abbrev mem_writes : List Write → List Write
   mem_writes ws = own_writes (λ t. not (is_store t)) ws
@@ -54,7 +55,7 @@ module _ (is_store : ℕ → Bool) where
   all_writes [] h = tt
   all_writes (d ∷ ds) h = each_append (λ (w : Write). is_store w.table ≡ true) d.writes (flat_map (λ d. d.writes) ds) h.0 (all_writes ds h.1)
 
-  -- what S wrote does not show in M's part
+  -- what the storage engine's commits wrote does not show in the memory engine's parts
   same_parts : (ws : List Write) → Each (λ w. is_store w.table ≡ true) ws → (cs : List Commit) → mem_parts (map (with_writes ws) cs) ≡ mem_parts cs
   same_parts ws none [] = refl
   same_parts ws none (c ∷ cs) =

@@ -7,11 +7,12 @@ use Rattle.std.proofs.lemmas.List.{take_at, drop_at}
 use Rattle.sk_model.specs.declared.commit.Commit.{Commit}
 use Rattle.sk_model.specs.declared.point.Point.{Point}
 use Rattle.sk_weave.specs.Points.{Pair}
-use Rattle.sk_weave.specs.Weave.{there, within, weave, upto, place}
-use Rattle.sk_weave.specs.Woven.{Rises, Over, Under, Above, Below, Splits, Fitting, mem_parts, store_parts}
+use Rattle.sk_model.specs.Numbers.{there, within, Rises}
+use Rattle.sk_weave.specs.Weave.{weave, upto, place}
+use Rattle.sk_weave.specs.Woven.{Over, Under, Above, Below, Splits, Fitting, mem_parts, store_parts}
 use Rattle.sk_weave.specs.Laws.{SplitsAt, PairSplits, ListHasAll, PairHolds, AloneHolds}
-use Rattle.sk_weave.proofs.Lists.{Each, each_weaker}
-use Rattle.sk_weave.proofs.Numbers.{all_past}
+use Rattle.sk_model.proofs.Lists.{Each, each_weaker}
+use Rattle.sk_model.proofs.Numbers.{all_past}
 use Rattle.sk_weave.proofs.Splits.{pair_splits, place_held, place_splits}
 use Rattle.sk_weave.proofs.Parts.{held_parts}
 use Rattle.sk_weave.proofs.Content.{mem_content, store_content}

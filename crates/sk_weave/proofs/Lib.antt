@@ -1,5 +1,3 @@
-pub mod Lists
-pub mod Numbers
 pub mod Places
 pub mod Merging
 pub mod Running
@@ -14,3 +12,9 @@ pub mod Holding
 mod Rows
 pub mod Premises
 pub mod Registers
+pub mod Prefixes
+pub mod Held
+pub mod Writers
+pub mod Wins
+pub mod Keys
+mod ReadRows

@@ -9,10 +9,11 @@ use Rattle.sk_model.specs.declared.commit.Write.{Write}
 use Rattle.sk_model.specs.declared.commit.Commit.{Commit}
 use Rattle.sk_model.specs.declared.point.Point.{Point}
 use Rattle.sk_weave.specs.Points.{CanFollow, Climbs, before_a, before_b, Pair}
-use Rattle.sk_weave.specs.Weave.{there, within, mem_within, store_within, with_writes, cross, weave_from, upto, is_wanted, place}
-use Rattle.sk_weave.specs.Woven.{Rises, At, MemOk, StoreOk, CrossOk, Over, Under, Above, Below, Splits}
-use Rattle.sk_weave.proofs.Lists.{Each, each_append, each_weaker, each_filter, each_map}
-use Rattle.sk_weave.proofs.Numbers.{there_is, split_at}
+use Rattle.sk_model.specs.Numbers.{there, within, Rises}
+use Rattle.sk_weave.specs.Weave.{mem_within, store_within, with_writes, cross, weave_from, upto, is_wanted, place}
+use Rattle.sk_weave.specs.Woven.{At, MemOk, StoreOk, CrossOk, Over, Under, Above, Below, Splits}
+use Rattle.sk_model.proofs.Lists.{Each, each_append, each_weaker, each_filter, each_map}
+use Rattle.sk_model.proofs.Numbers.{there_is, split_at}
 use Rattle.sk_weave.proofs.Pairs.{pair_gap, pair_later}
 
 pub over_from : (a : ℕ) (o : Option ℕ) → ((n : ℕ) → o ≡ Some n → a < n) → Over a o
@@ -257,7 +258,7 @@ nothing_held a b p cs l m h = record {
   above = each_weaker (Above p.a p.b) (Above a b) (λ c k. record { mem = over_more a p.a l c.mem k.mem; store = over_more b p.b m c.store k.store }) cs h;
 }
 
--- M's commits up to high are those up to mid and those past it
+-- the memory commits up to high are those up to mid and those past it
 cut_at : (x mid high : ℕ) → x ≤ mid → mid ≤ high → (low : ℕ) (mem : List Commit) → Rises (λ (c : Commit). c.mem) low mem → mem_within x high mem ≡ mem_within x mid mem ++ mem_within mid high mem
 cut_at x mid high l m low mem up = split_at (λ c. c.mem) (within x high) (within x mid) (within mid high) mid
     (λ n le. (grind (arith, nat_tests), grind (arith, nat_tests)))

@@ -6,3 +6,4 @@ pub mod Laws
 pub mod Registry
 pub mod Promise
 pub mod RegistryLaws
+pub mod Reads

@@ -2,6 +2,7 @@
 
 ghost use Rattle.sk_weave.specs.Laws.{StaircaseGrows, SelectionStays, WordsRise, WordsAreRead, PickIsPair, PairStays, PairSplits, ListHasAll, PairHolds, AloneHolds, MergedByTable};
 ghost use Rattle.sk_weave.specs.RegistryLaws.{StartIsSound, StepsAreSound, CallsTakeSteps, SelectedIsPair, RecycledIsRight};
+ghost use Rattle.sk_weave.specs.Reads.{GetIsOfView, ScanIsOfView, FirstCommitterWins};
 
 /// A point that can follow the last one keeps the staircase.
 pub fn staircase_grows()
@@ -81,4 +82,19 @@ pub fn selected_is_pair()
 /// A selection is refused only where partitions were given up, and the oldest live point is the first of its partition.
 pub fn recycled_is_right()
     ensures { RecycledIsRight }
+{}
+
+/// A read of one key by a transaction whose snapshots are a pair finds the row that the list's prefix at their place shows, overlaid with the transaction's own writes, whatever is stamped later.
+pub fn get_is_of_view()
+    ensures { GetIsOfView }
+{}
+
+/// A read of a table by such a transaction finds the table that this prefix shows, overlaid with its own writes.
+pub fn scan_is_of_view()
+    ensures { ScanIsOfView }
+{}
+
+/// First committer wins: between the place of a transaction's snapshots and the place where it stands, no commit wrote a row that it wrote.
+pub fn first_committer_wins()
+    ensures { FirstCommitterWins }
 {}

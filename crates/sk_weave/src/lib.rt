@@ -14,9 +14,10 @@ mod weaving;
 pub use answer::{CutFound, DrawFault, Passed, Selected};
 pub use event::Event;
 pub use laws::{
-    alone_holds, calls_take_steps, list_has_all, merged_by_table, pair_holds, pair_splits,
-    pair_stays, pick_is_pair, recycled_is_right, selected_is_pair, selection_stays,
-    staircase_grows, start_is_sound, steps_are_sound, words_are_read, words_rise,
+    alone_holds, calls_take_steps, first_committer_wins, get_is_of_view, list_has_all,
+    merged_by_table, pair_holds, pair_splits, pair_stays, pick_is_pair, recycled_is_right,
+    scan_is_of_view, selected_is_pair, selection_stays, staircase_grows, start_is_sound,
+    steps_are_sound, words_are_read, words_rise,
 };
 pub use packing::{pack, unpack};
 pub use picking::{before_a, before_b, pick, pick_newest};

@@ -5,9 +5,8 @@ use Rattle.std.specs.List.{filter, prefix_len}
 use Rattle.std.proofs.lemmas.Bool.{cases_lt, cond_both, false≢true, and_parts, ltb-true, lt-ltb, lt-leb}
 use Rattle.std.proofs.lemmas.Bool.Decides.{nat_tests}
 use Rattle.std.proofs.lemmas.List.{take_at, drop_at}
-use Rattle.sk_weave.specs.Weave.{there, within}
-use Rattle.sk_weave.specs.Woven.{Rises}
-use Rattle.sk_weave.proofs.Lists.{Each}
+use Rattle.sk_model.specs.Numbers.{there, within, Rises}
+use Rattle.sk_model.proofs.Lists.{Each}
 
 pub there_is : (test : ℕ → Bool) (o : Option ℕ) → there test o ≡ true → (n : ℕ) × (o ≡ Some n) × (test n ≡ true)
 there_is test None e = absurd (false≢true e)
