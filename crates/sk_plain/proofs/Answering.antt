@@ -24,7 +24,7 @@ use Rattle.sk_model.specs.Names.{columns_at}
 use Rattle.sk_model.specs.Reads.{rows_read, rows_met}
 use Rattle.sk_model.specs.Changes.{new_rows}
 use Rattle.sk_model.specs.Replies.{Answer, refused, has_room, key_of, row_put, row_gone, inserted, shown, updated, deleted, comes_to, key_read, answer_of, writes_in, is_judged, is_judged_word, is_count}
-use Rattle.sk_weave.proofs.Lists.{each_weaker}
+use Rattle.sk_model.proofs.Lists.{each_weaker}
 use Rattle.sk_plain.specs.Standing.{Live, Standing, is_stored, mem_count, store_count, may_use, started, mem_at_start, store_at_start, snapshot_taken, selected, heard, answered}
 use Rattle.sk_plain.specs.Session.{answer_at, engine_kind}
 use Rattle.sk_plain.proofs.Telling.{count_judged}

@@ -7,6 +7,7 @@ mod desk;
 mod ending;
 mod live;
 mod maps;
+mod numbers;
 mod played;
 mod turn;
 
