@@ -6,6 +6,7 @@ pub mod Entries
 pub mod Growing
 pub mod Named
 pub mod NetWrites
+pub mod Parts
 pub mod Promise
 pub mod RowWrites
 pub mod Settled

@@ -2,6 +2,7 @@
 
 ghost use Rattle.std.specs.Prelude.{◌≡◌, ◌+◌, ◌++◌, ◌∷◌, [], IfOk, cond as choose, false, true};
 ghost use Rattle.sk_model.specs.Records.{some_writes};
+ghost use Rattle.sk_plain.specs.Before.{writes_at};
 ghost use Rattle.sk_plain.specs.Playing as spec;
 ghost use Rattle.sk_plain.specs.Standing.{drawn as drawn_of, is_stored as is_stored_at, wrote as wrote_in};
 
@@ -131,8 +132,7 @@ fn record(
     }
 }
 
-/// The commits with one more, where it wrote something.
-fn with_commit(order: CommitList, commit: Commit) -> Result<CommitList, NoMemory>
+fn pushed(order: CommitList, commit: Commit) -> Result<CommitList, NoMemory>
     ensures { IfOk result (λ l. l ≡ order ++ choose (some_writes commit.writes) (commit ∷ []) []) }
 {
     let mut order = order;
@@ -142,8 +142,45 @@ fn with_commit(order: CommitList, commit: Commit) -> Result<CommitList, NoMemory
     Ok(order)
 }
 
+/// One more commit, where it wrote something.
+#[tactic(auto, unfolding(crate::specs::Playing::with_commit))]
+fn with_commit(desk: Desk, commit: Commit) -> Result<Desk, NoMemory>
+    ensures { IfOk result (λ d. d ≡ spec.with_commit desk commit) }
+{
+    let Desk {
+        tables,
+        order,
+        records,
+        places,
+        mem,
+        store,
+    } = desk;
+    let len = next(small(order.len())?)?;
+    let mem = after_draw(commit.mem, len, mem);
+    let store = after_draw(commit.store, len, store);
+    Ok(Desk {
+        tables,
+        order: pushed(order, commit)?,
+        records,
+        places,
+        mem,
+        store,
+    })
+}
+
+/// One more record with its place.
+#[tactic(auto, unfolding(crate::specs::Playing::with_record))]
+fn with_record(desk: Desk, of: Record, place: u32) -> Result<Desk, NoMemory>
+    ensures { IfOk result (λ d. d ≡ spec.with_record desk of place) }
+{
+    let mut desk = desk;
+    desk.records.push(of)?;
+    desk.places.push(place)?;
+    Ok(desk)
+}
+
 /// The transaction commits these writes with these numbers.
-#[tactic(auto, unfolding(crate::specs::Playing::commit_with))]
+#[tactic(auto, using(crate::proofs::Parts::commit_is))]
 fn commit_with(
     alloc: Global,
     desk: Desk,
@@ -156,34 +193,36 @@ fn commit_with(
 {
     let label = next_label(&desk)?;
     let place = place_now(&desk, &live);
-    let Desk {
-        tables,
-        order,
-        mut records,
-        mut places,
-        mem: mem_numbers,
-        store: store_numbers,
-    } = desk;
-    let len = next(small(order.len())?)?;
-    let order = with_commit(
-        order,
-        Commit {
-            label,
-            mem,
-            store,
-            writes,
-        },
-    )?;
-    records.push(record(alloc, label, live, Ending::Committed, mem, store))?;
-    places.push(place)?;
-    Ok(Desk {
-        tables,
-        order,
-        records,
-        places,
-        mem: after_draw(mem, len, mem_numbers),
-        store: after_draw(store, len, store_numbers),
-    })
+    let commit = Commit {
+        label,
+        mem,
+        store,
+        writes,
+    };
+    let desk = with_commit(desk, commit)?;
+    let record = record(alloc, label, live, Ending::Committed, mem, store);
+    with_record(desk, record, place)
+}
+
+/// The transaction commits these writes.
+fn commit_all(
+    alloc: Global,
+    catalog: &Catalog,
+    desk: Desk,
+    live: Live,
+    writes: WriteList,
+) -> Result<Desk, NoMemory>
+    ensures { IfOk result (λ d. d ≡ spec.commit_all catalog.now desk live writes) }
+{
+    let mem = drawn(wrote_other(catalog, writes.as_slice()), desk.mem.count)?;
+    let store = drawn(wrote_stored(catalog, writes.as_slice()), desk.store.count)?;
+    commit_with(alloc, desk, live, writes, mem, store)
+}
+
+fn kept_writes(alloc: Global, desk: &Desk, live: &Live) -> Result<WriteList, NoMemory>
+    ensures { IfOk result (λ ws. ws ≡ writes_at desk.now.tables live.now.before) }
+{
+    writes_now(alloc, desk.tables.as_slice(), &live.before)
 }
 
 /// The transaction commits what it wrote.
@@ -195,10 +234,8 @@ pub(crate) fn commit(
 ) -> Result<Desk, NoMemory>
     ensures { IfOk result (λ d. d ≡ spec.commit catalog.now desk live) }
 {
-    let writes = writes_now(alloc, desk.tables.as_slice(), &live.before)?;
-    let mem = drawn(wrote_other(catalog, writes.as_slice()), desk.mem.count)?;
-    let store = drawn(wrote_stored(catalog, writes.as_slice()), desk.store.count)?;
-    commit_with(alloc, desk, live, writes, mem, store)
+    let writes = kept_writes(alloc, &desk, &live)?;
+    commit_all(alloc, catalog, desk, live, writes)
 }
 
 /// The transaction is given up: its rows are again what they were.

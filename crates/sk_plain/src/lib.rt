@@ -9,6 +9,7 @@ mod live;
 mod maps;
 mod numbers;
 mod played;
+mod session;
 mod turn;
 
 pub use played::Played;
