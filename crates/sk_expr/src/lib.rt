@@ -1,4 +1,5 @@
-//! Expressions: their sorts and values over a table's rows, what one database answers to a statement, and whether a record is one of its.
+//! Expressions, their sorts and values over a table's rows; what one database answers to a statement; and whether the
+//! replies of a record are such answers.
 #![tactic(auto)]
 
 mod answering;
