@@ -9,6 +9,7 @@ mod live;
 mod maps;
 mod numbers;
 mod played;
+mod playing;
 mod session;
 mod turn;
 
