@@ -1,13 +1,22 @@
 -- What a run answers, from how it ended.
-use Rattle.std.proofs.Common.{◌≡◌, ℕ, List, true, false, Err, IsErrOf, Option, refl, sym, subst, ⊎_elim}
+use Rattle.std.proofs.Common.{◌≡◌, ℕ, List, true, false, Ok, Err, IsErrOf, Option, refl, sym, ap, subst, ◌∙◌, ⊎_elim}
 use Rattle.std.specs.Io.KnownBytes.{Appends}
+use Rattle.std.specs.String.{string_bytes}
 use Rattle.sk_outside.specs.Causes.{Rose}
 use Rattle.sk_outside.specs.Pieces.{AppendsFront}
 use Rattle.sk_model.specs.declared.outcome.Outcome.{Outcome}
-use Rattle.sk_serial.specs.declared.playing.Played.{Played}
-use Rattle.sk_serial.specs.declared.running.Stop.{Stop}
-use Rattle.sk_serial.specs.declared.running.Stop.TheVariants as stop
-use Rattle.sk_serial.specs.Running.{Ran, IsPrinted, IsStopped, IsNothing, IsFinished, Whole, Part, NoMemory, HasRun, Departs, Found, usage_text, script_text, read_text, memory_text, played_in, outcome_text}
+use Rattle.sk_model.specs.Records.{OneDatabase}
+use Rattle.sk_rows.specs.declared.table.Table.{Table}
+use Rattle.sk_plain.specs.Standing.{opening_of}
+use Rattle.sk_plain.specs.declared.played.Played.{Played}
+use Rattle.sk_plain.proofs.Promise.{one_database}
+use Rattle.sk_script.specs.declared.script.Script.{Script}
+use Rattle.sk_script.specs.Text.{script_fault_text}
+use Rattle.sk_serial.specs.declared.playing.Shown.{Shown}
+use Rattle.sk_serial.specs.declared.stop.Stop.{Stop}
+use Rattle.sk_serial.specs.declared.stop.Stop.TheVariants as stop
+use Rattle.sk_serial.specs.Played.{run_of, statements_in, tables_in, text_of}
+use Rattle.sk_serial.specs.Running.{Ran, IsPrinted, IsStopped, IsNothing, IsFinished, IsShown, HasRun, Departs, Found, usage_text, read_text, memory_text}
 
 module _ (left left_now written written_now : Option (List ℕ)) (reads reads_now writes writes_now : ℕ) (outcome : Outcome) where
   pub usage_ran : IsPrinted 2 usage_text outcome.status written written_now writes writes_now → IsNothing outcome → Ran false left left_now written written_now reads reads_now writes writes_now outcome
@@ -17,25 +26,23 @@ module _ (left left_now written written_now : Option (List ℕ)) (reads reads_no
     usage_printed = λ _. printed;
     script = λ e. absurd (cc);
     read = λ e. absurd (cc);
+    write = λ e. absurd (cc);
     memory = λ e. absurd (cc);
     nothing = λ _. nothing;
     played = λ e. absurd (let f = rw is at e in cc);
-    whole = λ e. absurd (cc);
-    part = λ e. absurd (cc);
   }
 
-  script_ran : (line : ℕ) → Departs left left_now line → IsPrinted 3 (script_text line) outcome.status written written_now writes writes_now → IsNothing outcome → Ran true left left_now written written_now reads reads_now writes writes_now outcome
-  script_ran line departs (is, printed) nothing = record {
+  script_ran : (line place : ℕ) → Departs left left_now line place → IsPrinted 3 (script_fault_text line place) outcome.status written written_now writes writes_now → IsNothing outcome → Ran true left left_now written written_now reads reads_now writes writes_now outcome
+  script_ran line place departs (is, printed) nothing = record {
     status = rw is refl;
     usage = ((λ e. absurd (cc)), (λ e. absurd (cc)));
     usage_printed = λ e. absurd (cc);
-    script = λ _. record { line = line; departs = departs; printed = printed };
+    script = λ _. record { line = line; place = place; departs = departs; printed = printed };
     read = λ e. absurd (cc);
+    write = λ e. absurd (cc);
     memory = λ e. absurd (cc);
     nothing = λ _. nothing;
     played = λ e. absurd (let f = rw is at e in cc);
-    whole = λ e. absurd (cc);
-    part = λ e. absurd (cc);
   }
 
   read_ran : Rose reads reads_now → IsPrinted 4 read_text outcome.status written written_now writes writes_now → IsNothing outcome → Ran true left left_now written written_now reads reads_now writes writes_now outcome
@@ -45,11 +52,10 @@ module _ (left left_now written written_now : Option (List ℕ)) (reads reads_no
     usage_printed = λ e. absurd (cc);
     script = λ e. absurd (cc);
     read = λ _. (rose, printed);
+    write = λ e. absurd (cc);
     memory = λ e. absurd (cc);
     nothing = λ _. nothing;
     played = λ e. absurd (let f = rw is at e in cc);
-    whole = λ e. absurd (cc);
-    part = λ e. absurd (cc);
   }
 
   memory_ran : IsPrinted 8 memory_text outcome.status written written_now writes writes_now → IsNothing outcome → Ran true left left_now written written_now reads reads_now writes writes_now outcome
@@ -59,48 +65,76 @@ module _ (left left_now written written_now : Option (List ℕ)) (reads reads_no
     usage_printed = λ e. absurd (cc);
     script = λ e. absurd (cc);
     read = λ e. absurd (cc);
+    write = λ e. absurd (cc);
     memory = λ _. printed;
     nothing = λ _. nothing;
     played = λ e. absurd (let f = rw is at e in cc);
-    whole = λ e. absurd (cc);
-    part = λ e. absurd (cc);
   }
 
-  whole_ran : outcome.status ≡ 0 → HasRun left left_now (played_in outcome) → Appends written written_now (outcome_text outcome) → Ran true left left_now written written_now reads reads_now writes writes_now outcome
-  whole_ran is run appends = record {
+  whole_ran : outcome.status ≡ 0 → HasRun left left_now written written_now outcome → Ran true left left_now written written_now reads reads_now writes writes_now outcome
+  whole_ran is run = record {
     status = rw is refl;
     usage = ((λ e. absurd (cc)), (λ e. absurd (cc)));
     usage_printed = λ e. absurd (cc);
     script = λ e. absurd (cc);
     read = λ e. absurd (cc);
+    write = λ e. absurd (cc);
     memory = λ e. absurd (cc);
     nothing = λ e. absurd (let f = rw is at e in cc);
     played = λ _. run;
-    whole = λ _. appends;
-    part = λ e. absurd (cc);
   }
 
-  part_ran : outcome.status ≡ 5 → HasRun left left_now (played_in outcome) → AppendsFront written written_now (outcome_text outcome) → Rose writes writes_now → Ran true left left_now written written_now reads reads_now writes writes_now outcome
-  part_ran is run front rose = record {
+  part_ran : outcome.status ≡ 5 → HasRun left left_now written written_now outcome → Rose writes writes_now → Ran true left left_now written written_now reads reads_now writes writes_now outcome
+  part_ran is run rose = record {
     status = rw is refl;
     usage = ((λ e. absurd (cc)), (λ e. absurd (cc)));
     usage_printed = λ e. absurd (cc);
     script = λ e. absurd (cc);
     read = λ e. absurd (cc);
+    write = λ _. rose;
     memory = λ e. absurd (cc);
     nothing = λ e. absurd (let f = rw is at e in cc);
     played = λ _. run;
-    whole = λ e. absurd (cc);
-    part = λ _. (front, rose);
   }
 
-  pub stopped_ran : (why : Stop) → IsStopped why outcome.status written written_now writes writes_now → IsNothing outcome → Found left left_now (Err why) → (IsErrOf {T = Played} (Err why) stop.Read → Rose reads reads_now) → Ran true left left_now written written_now reads reads_now writes writes_now outcome
+  pub stopped_ran : (why : Stop) → IsStopped why outcome.status written written_now writes writes_now → IsNothing outcome → Found left left_now (Err why) → (IsErrOf {T = Shown} (Err why) stop.Read → Rose reads reads_now) → Ran true left left_now written written_now reads reads_now writes writes_now outcome
   stopped_ran stop.Usage printed nothing found read = absurd found
-  stopped_ran (stop.Script line) printed nothing found read = ⊎_elim (λ p. script_ran line found p nothing) (λ p. memory_ran p nothing) printed
+  stopped_ran (stop.Script line place) printed nothing found read = ⊎_elim (λ p. script_ran line place found p nothing) (λ p. memory_ran p nothing) printed
   stopped_ran stop.Read printed nothing found read = read_ran (read refl) printed nothing
   stopped_ran stop.NoMemory printed nothing found read = memory_ran printed nothing
 
-  pub finished_ran : (played : Played) → IsFinished played outcome written written_now writes writes_now → HasRun left left_now played → Ran true left left_now written written_now reads reads_now writes writes_now outcome
-  finished_ran played (Whole is same appends) run = whole_ran is (subst (HasRun left left_now) (sym same) run) appends
-  finished_ran played (Part is same front rose) run = part_ran is (subst (HasRun left left_now) (sym same) run) front rose
-  finished_ran played (NoMemory printed nothing) run = memory_ran printed nothing
+  -- the run of one session is one of one database
+  handed_out : (script : Script) → outcome.records ≡ (run_of script).records → outcome.order ≡ (run_of script).order → outcome.prefixes ≡ (run_of script).places
+      → OneDatabase (tables_in script) (opening_of (tables_in script)) outcome.order outcome.prefixes outcome.records
+  handed_out script records order prefixes = rw (records, order, prefixes) (one_database (tables_in script) (statements_in script))
+
+  pub finished_ran : (shown : Shown) → IsFinished shown outcome written written_now writes writes_now → Found left left_now (Ok shown) → Ran true left left_now written written_now reads reads_now writes writes_now outcome
+  finished_ran shown finished (script, (reads_script, is)) =
+      let records : outcome.records ≡ (run_of script).records = finished.records ∙ ap (λ (p : Played). p.records) is.0 in
+      let order : outcome.order ≡ (run_of script).order = finished.order ∙ ap (λ (p : Played). p.order) is.0 in
+      let prefixes : outcome.prefixes ≡ (run_of script).places = finished.prefixes ∙ ap (λ (p : Played). p.places) is.0 in
+      let one = handed_out script records order prefixes in
+      ⊎_elim
+      (λ (w : (outcome.status ≡ 0) × Appends written written_now (string_bytes shown.text)).
+      whole_ran w.0 (record {
+        script = script;
+        reads = reads_script;
+        records = records;
+        order = order;
+        prefixes = prefixes;
+        one = one;
+        whole = λ _. subst (Appends written written_now) is.1 w.1;
+        part = λ e. absurd (let f = w.0 in cc);
+      }))
+      (λ (w : (outcome.status ≡ 5) × AppendsFront written written_now (string_bytes shown.text) × Rose writes writes_now).
+      part_ran w.0 (record {
+        script = script;
+        reads = reads_script;
+        records = records;
+        order = order;
+        prefixes = prefixes;
+        one = one;
+        whole = λ e. absurd (let f = w.0 in cc);
+        part = λ _. subst (AppendsFront written written_now) is.1 w.1;
+      }) w.2)
+      finished.printed

@@ -1,6 +1,2 @@
-pub mod Words
-pub mod Form
-pub mod Script
-pub mod Playing
 pub mod Played
 pub mod Running

@@ -1,12 +1,9 @@
 //! One script, from its bytes to the printed text, on one thread.
 #![tactic(auto)]
 
-mod form;
-mod plain;
 mod playing;
 mod running;
-mod text;
-mod words;
+mod stop;
 
 pub use running::run_script;
 

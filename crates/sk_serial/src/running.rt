@@ -1,61 +1,39 @@
 //! One script from bytes to bytes.
 
-ghost use Rattle.std.specs.Prelude.{◌≡◌, ◌↔◌, ◌⊎◌, ◌≤◌, [], map, true, false, IsTrue, IfOk, IsErrOf, IfErr, ℕ, ◌≢◌};
+ghost use Rattle.std.specs.Prelude.{◌≡◌, ◌↔◌, ◌⊎◌, ◌≤◌, [], map, true, false, is_some, IfOk, IsErrOf, IfErr, Err, ℕ};
 ghost use Rattle.std.specs.Io.KnownBytes.{Appends};
 ghost use Rattle.std.specs.String.{string_bytes};
 ghost use Rattle.sk_outside.specs.Causes.{Rose};
 ghost use Rattle.sk_outside.specs.Pieces.{AppendsFront, ConsumesAtMost};
-ghost use Rattle.sk_serial.specs.Words as word;
+ghost use Rattle.sk_script.specs.Words.{place as place_of};
+ghost use Rattle.sk_script.specs.Text.{script_fault_text};
 ghost use Rattle.sk_serial.specs.Running as spec;
 
-use crate::plain::{PlainFault, PlainScript, read_plain};
-use crate::playing::{Played, play};
-use crate::text::run_text;
-use crate::words::is_run;
+use crate::playing::{Shown, play_script};
+use crate::stop::Stop;
 use sk_model::{CommitList, Outcome, PlaceList, RecordList};
 use sk_outside::{ReadError, Sink, Source, read_whole, write_whole};
+use sk_plain::Played;
 use sk_rows::NoMemory;
+use sk_script::{Script, ScriptFault, place, put_script_fault, read_script};
 use std::alloc::Global;
 
-/// Why no script was played.
-#[derive(Clone, Copy, Debug, PartialEq, Eq)]
-enum Stop {
-    /// The words are of no written form.
-    Usage,
-    /// This line is the first that departs from the form of a script.
-    Script { line: u32 },
-    /// The source failed.
-    Read,
-    NoMemory,
-}
-
-impl From<NoMemory> for Stop {
-    ghost use Rattle.std.specs.Prelude.{◌≡◌};
-    ghost use Rattle.sk_serial.specs.declared.running.Stop.TheVariants as stop;
-
-    ghost from_gives = { λ _ e. e ≡ stop.NoMemory };
-
-    fn from(_e: NoMemory) -> Stop {
-        Stop::NoMemory
-    }
-}
-
-fn read_script(alloc: Global, bytes: &[u8]) -> Result<PlainScript, Stop>
+fn read(alloc: Global, bytes: &[u8]) -> Result<Script, Stop>
     ensures { spec.ReadAs bytes.now result }
 {
-    match read_plain(alloc, bytes) {
+    match read_script(alloc, bytes) {
         Ok(script) => Ok(script),
-        Err(PlainFault::Departs { line }) => Err(Stop::Script { line }),
-        Err(PlainFault::NoMemory) => Err(Stop::NoMemory),
+        Err(ScriptFault::At { line, place }) => Err(Stop::Script { line, place }),
+        Err(ScriptFault::NoMemory) => Err(Stop::NoMemory),
     }
 }
 
-fn play_bytes(alloc: Global, bytes: &[u8]) -> Result<Played, Stop>
+fn play_bytes(alloc: Global, bytes: &[u8]) -> Result<Shown, Stop>
     ensures { spec.PlayedOf bytes.now result }
 {
-    let script = read_script(alloc, bytes)?;
-    match play(alloc, &script) {
-        Ok(played) => Ok(played),
+    let script = read(alloc, bytes)?;
+    match play_script(alloc, script) {
+        Ok(shown) => Ok(shown),
         Err(NoMemory) => Err(Stop::NoMemory),
     }
 }
@@ -75,7 +53,7 @@ fn read_bytes<S: Source>(alloc: Global, source: &mut S) -> Result<Vec<u8>, Stop>
 }
 
 /// Reads the script and plays it.
-fn play_source<S: Source>(alloc: Global, source: &mut S) -> Result<Played, Stop>
+fn play_source<S: Source>(alloc: Global, source: &mut S) -> Result<Shown, Stop>
     ensures found { spec.Found (S.left source.old) (S.left source.new) result }
     ensures read { IsErrOf result Stop.Read → Rose (S.faults source.old) (S.faults source.new) }
     ensures within { ConsumesAtMost 16777217 (S.left source.old) (S.left source.new) }
@@ -97,10 +75,12 @@ fn print<K: Sink>(sink: &mut K, text: &[u8]) -> bool
     }
 }
 
-fn script_text(alloc: Global, line: u32) -> Result<String, NoMemory>
-    ensures { IfOk result (λ text. string_bytes text ≡ spec.script_text line) }
+fn script_text(alloc: Global, line: u32, place: u32) -> Result<String, NoMemory>
+    ensures { IfOk result (λ text. string_bytes text ≡ script_fault_text line place) }
 {
-    Ok(format!(in alloc; "FAULT script {line} 1\n")?)
+    let mut text = String::new(alloc);
+    put_script_fault(&mut text, line, place)?;
+    Ok(text)
 }
 
 /// Prints a fault, and gives its status.
@@ -112,7 +92,7 @@ fn stopped<K: Sink>(alloc: Global, stop: Stop, sink: &mut K) -> u8
             print(sink, b"FAULT usage\n");
             2
         }
-        Stop::Script { line } => match script_text(alloc, line) {
+        Stop::Script { line, place } => match script_text(alloc, line, place) {
             Ok(text) => {
                 print(sink, text.as_bytes());
                 3
@@ -156,24 +136,17 @@ fn stop_at<K: Sink>(alloc: Global, stop: Stop, sink: &mut K) -> Outcome
     nothing(alloc, status)
 }
 
-/// Prints what was played, and hands it out.
-fn finish<K: Sink>(alloc: Global, played: Played, sink: &mut K) -> Outcome
-    ensures { spec.IsFinished played result (K.written sink.old) (K.written sink.new) (K.faults sink.old) (K.faults sink.new) }
+/// Prints a run, and hands it out.
+fn finish<K: Sink>(shown: Shown, sink: &mut K) -> Outcome
+    ensures { spec.IsFinished shown result (K.written sink.old) (K.written sink.new) (K.faults sink.old) (K.faults sink.new) }
 {
-    let text = match run_text(
-        alloc,
-        played.records.as_slice(),
-        played.order.as_slice(),
-        played.places.as_slice(),
-    ) {
-        Ok(text) => text,
-        Err(NoMemory) => return stop_at(alloc, Stop::NoMemory, sink),
-    };
+    let Shown { played, text } = shown;
     let status = if print(sink, text.as_bytes()) { 0 } else { 5 };
     let Played {
         records,
         order,
         places,
+        ..
     } = played;
     Outcome {
         status,
@@ -184,24 +157,24 @@ fn finish<K: Sink>(alloc: Global, played: Played, sink: &mut K) -> Outcome
 }
 
 fn run<S: Source, K: Sink>(alloc: Global, words: &[String], source: &mut S, sink: &mut K) -> Outcome
-    ensures ran { spec.Ran (word.is_run (map string_bytes words.now)) (S.left source.old) (S.left source.new) (K.written sink.old) (K.written sink.new) (S.faults source.old) (S.faults source.new) (K.faults sink.old) (K.faults sink.new) result }
+    ensures ran { spec.Ran (is_some (place_of (map string_bytes words.now))) (S.left source.old) (S.left source.new) (K.written sink.old) (K.written sink.new) (S.faults source.old) (S.faults source.new) (K.faults sink.old) (K.faults sink.new) result }
     ensures within { ConsumesAtMost 16777217 (S.left source.old) (S.left source.new) }
 {
-    if !is_run(words) {
+    if place(words).is_none() {
         return stop_at(alloc, Stop::Usage, sink);
     }
     match play_source(alloc, source) {
-        Ok(played) => finish(alloc, played, sink),
+        Ok(shown) => finish(shown, sink),
         Err(stop) => stop_at(alloc, stop, sink),
     }
 }
 
 /// Plays one script: all that `skdb` does. The words are those behind the program's name, and exactly `run DIR`.
 ///
-/// The script is read from the source to its end and played over a plain list of commits; the directory is not touched. The text
-/// goes into the sink by one write at the end, or by more where the sink takes less at once. Statuses: 0 Ok, 2 the words are of no
-/// written form, 3 the script departs from its form, 4 the source failed, 5 the sink failed, 8 want of memory. Statuses 2, 3, 4 and 8
-/// print their one line and hand nothing out.
+/// The script is read from the source to its end and played by one session over a plain list of commits; the directory is not
+/// touched. The text goes into the sink by one write at the end, or by more where the sink takes less at once. Statuses: 0 Ok,
+/// 2 the words are of no written form, 3 the script departs from the grammar, 4 the source failed, 5 the sink failed, 8 want of
+/// memory. Statuses 2, 3, 4 and 8 print their one line and hand nothing out.
 pub fn run_script<S: Source, K: Sink>(
     alloc: Global,
     words: &[String],
@@ -210,23 +183,23 @@ pub fn run_script<S: Source, K: Sink>(
 ) -> Outcome
     // The status is one of six; 2 comes exactly where the words are of no written form.
     ensures status { spec.is_status result.status ≡ true }
-    ensures usage { (result.status ≡ 2) ↔ (word.is_run (map string_bytes words.now) ≡ false) }
+    ensures usage { (result.status ≡ 2) ↔ (is_some (place_of (map string_bytes words.now)) ≡ false) }
 
-    // A script that departs from its form is refused at its first line that does.
+    // A script that departs from the grammar is refused at its first fault.
     ensures script { result.status ≡ 3 → spec.IsScriptFault (S.left source.old) (S.left source.new) (K.written sink.old) (K.written sink.new) (K.faults sink.old) (K.faults sink.new) }
 
     // The source or the sink failed, and not the run.
     ensures read { result.status ≡ 4 → Rose (S.faults source.old) (S.faults source.new) × spec.Prints (K.written sink.old) (K.written sink.new) (K.faults sink.old) (K.faults sink.new) spec.read_text }
-    ensures part { result.status ≡ 5 → AppendsFront (K.written sink.old) (K.written sink.new) (spec.outcome_text result) × Rose (K.faults sink.old) (K.faults sink.new) }
+    ensures write { result.status ≡ 5 → Rose (K.faults sink.old) (K.faults sink.new) }
 
     // Whatever else it is, the text is that line, and nothing is handed out.
     ensures usage_printed { result.status ≡ 2 → spec.Prints (K.written sink.old) (K.written sink.new) (K.faults sink.old) (K.faults sink.new) spec.usage_text }
     ensures memory { result.status ≡ 8 → spec.Prints (K.written sink.old) (K.written sink.new) (K.faults sink.old) (K.faults sink.new) spec.memory_text }
     ensures nothing { spec.is_fault result.status ≡ true → spec.IsNothing result }
 
-    // The script was read and is played, as one database with its list of commits; with status 0 all of its text is printed.
-    ensures played { spec.is_fault result.status ≡ false → spec.HasRun (S.left source.old) (S.left source.new) (spec.played_in result) }
-    ensures whole { result.status ≡ 0 → Appends (K.written sink.old) (K.written sink.new) (spec.outcome_text result) }
+    // The script was read and is played, as one database with its list of commits; with status 0 all of its text is printed, with
+    // status 5 a front of it.
+    ensures played { spec.is_fault result.status ≡ false → spec.HasRun (S.left source.old) (S.left source.new) (K.written sink.old) (K.written sink.new) result }
 
     // At most so many bytes are taken, whatever it answers.
     ensures within { ConsumesAtMost 16777217 (S.left source.old) (S.left source.new) }
