@@ -24,14 +24,14 @@ use Rattle.sk_model.specs.Names.{columns_at}
 use Rattle.sk_model.specs.Reads.{rows_read, rows_met}
 use Rattle.sk_model.specs.Changes.{new_rows}
 use Rattle.sk_model.specs.Replies.{Answer, refused, has_room, key_of, row_put, row_gone, inserted, shown, updated, deleted, comes_to, key_read, answer_of, writes_in, is_judged, is_judged_word, is_count}
-use Rattle.sk_weave.proofs.Lists.{each_weaker}
+use Rattle.sk_model.proofs.Lists.{each_weaker}
 use Rattle.sk_plain.specs.Standing.{Live, Standing, is_stored, mem_count, store_count, may_use, started, mem_at_start, store_at_start, snapshot_taken, selected, heard, answered}
 use Rattle.sk_plain.specs.Session.{answer_at, engine_kind}
 use Rattle.sk_plain.proofs.Telling.{count_judged}
 use Rattle.sk_plain.proofs.Underway.{Underway, Runs, is_covered, runs_none, runs_more, runs_wider}
 
 -- what does not count writes nothing, and what is written is of this table
-abbrev Writes : ℕ → Answer → Type 0
+abbrev pub Writes : ℕ → Answer → Type 0
 Writes t a = (cond (is_count a.0) a.1 [] ≡ a.1) × AllByRecursion (λ (w : Write). w.table ≡ t) a.1
 
 each_row : (t : ℕ) (f : Value × RowOf → Write) → ((e : Value × RowOf) → (f e).table ≡ t) → (rows : KeyedRows) → AllByRecursion (λ (w : Write). w.table ≡ t) (map f rows)
@@ -58,7 +58,7 @@ deleted_writes : (t : ℕ) (r : Result KeyedRows ValueFault) → Writes t (delet
 deleted_writes t (Err fault) = (refl, tt)
 deleted_writes t (Ok rows) = (refl, each_row t (row_gone t) (λ e. refl) rows)
 
-answer_writes : (columns : List Column) (t : ℕ) (s : Statement) (rows : KeyedRows) → Writes t (comes_to columns t s rows)
+pub answer_writes : (columns : List Column) (t : ℕ) (s : Statement) (rows : KeyedRows) → Writes t (comes_to columns t s rows)
 answer_writes columns t (statement.Begin begun) rows = (refl, tt)
 answer_writes columns t statement.Commit rows = (refl, tt)
 answer_writes columns t statement.Rollback rows = (refl, tt)

@@ -14,7 +14,7 @@ use Rattle.sk_model.specs.declared.record.Ending.{Ending}
 use Rattle.sk_model.specs.Database.{Tables, state, after_commit, net}
 use Rattle.sk_model.specs.Records.{Told, written, clashes, FirstWins, AtMost, IsLater, Follows, Fresh, same_label, own_place, all_commits, commits_of, committed_as}
 use Rattle.sk_weave.specs.Weave.{place}
-use Rattle.sk_weave.proofs.Lists.{each_append, each_both, each_weaker}
+use Rattle.sk_model.proofs.Lists.{each_append, each_both, each_weaker}
 use Rattle.sk_plain.specs.Standing.{Live, opening_of, mem_count, store_count, record_of}
 use Rattle.sk_plain.proofs.RowWrites.{InOrder, writes_keep_order}
 use Rattle.sk_plain.proofs.Agreeing.{Agree, Unused, prefix_agrees}

@@ -13,3 +13,6 @@ pub mod Shown
 pub mod Telling
 pub mod Underway
 pub mod Unwanted
+pub mod Noting
+pub mod Undoing
+pub mod Drawing

@@ -11,7 +11,7 @@ use Rattle.sk_model.specs.declared.record.Said.{Said}
 use Rattle.sk_model.specs.Database.{Tables, after_writes}
 use Rattle.sk_model.specs.Replies.{reply_of, is_judged}
 use Rattle.sk_model.specs.Records.{writes_said, after_said, Told, written}
-use Rattle.sk_weave.proofs.Lists.{each_append}
+use Rattle.sk_model.proofs.Lists.{each_append}
 use Rattle.sk_plain.specs.Standing.{Live, is_stored, mem_count, store_count, may_use}
 use Rattle.sk_plain.proofs.NetWrites.{AllOf}
 use Rattle.sk_plain.proofs.Telling.{Apt, apt_wider, after_all, told_append, written_append, written_leaves}

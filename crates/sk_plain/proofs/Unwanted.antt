@@ -9,7 +9,7 @@ use Rattle.sk_model.specs.declared.commit.Commit.{Commit}
 use Rattle.sk_model.specs.Database.{hits}
 use Rattle.sk_model.specs.Records.{AtMost, clashes}
 use Rattle.sk_weave.specs.Weave.{upto, is_wanted, place}
-use Rattle.sk_weave.proofs.Lists.{each_both, each_weaker}
+use Rattle.sk_model.proofs.Lists.{each_both, each_weaker}
 use Rattle.sk_plain.specs.Standing.{is_stored}
 use Rattle.sk_plain.proofs.NetWrites.{AllOf}
 use Rattle.sk_plain.proofs.Agreeing.{Unused}
