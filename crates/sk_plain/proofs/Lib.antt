@@ -16,3 +16,5 @@ pub mod Unwanted
 pub mod Noting
 pub mod Undoing
 pub mod Drawing
+pub mod Apart
+pub mod Counting
