@@ -18,3 +18,6 @@ pub mod Undoing
 pub mod Drawing
 pub mod Apart
 pub mod Counting
+pub mod Keeping
+pub mod KeptEnds
+pub mod Sound
