@@ -21,3 +21,4 @@ pub mod Counting
 pub mod Keeping
 pub mod KeptEnds
 pub mod Sound
+pub mod Stepping
