@@ -22,3 +22,4 @@ pub mod Keeping
 pub mod KeptEnds
 pub mod Sound
 pub mod Stepping
+pub mod SameRun
