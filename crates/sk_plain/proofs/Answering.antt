@@ -82,6 +82,12 @@ no_count r e = by (is_count r) refl
     by true c = let j : is_judged r ≡ true = count_judged r c in absurd cc
     by false c = c
 
+-- a snapshot that is taken at a count, or was there with it
+pub at_count : (stored : Bool) (n : ℕ) (store : Option ℕ) → IfSome store (λ s. s ≡ n) → IfSome (cond stored (snapshot_taken n store) store) (λ s. s ≡ n)
+at_count false n store h = h
+at_count true n None h = refl
+at_count true n (Some s) h = h
+
 module _ (catalog : List Table) (tables : Tables) (order : List Commit) where
   module _ (live : Live) (under : Underway catalog tables order live) where
     heard_by : (s : Statement) (r : Reply) → Runs catalog (is_covered catalog live.mem live.store) tables (live.said ++ record { statement = s; reply = r } ∷ []) live.tables (live.writes ++ [])
@@ -125,11 +131,6 @@ module _ (catalog : List Table) (tables : Tables) (order : List Commit) where
     wider true false n mem store e = e
     wider true true n mem None e = refl
     wider true true n mem (Some s) e = e
-
-    at_count : (stored : Bool) (n : ℕ) (store : Option ℕ) → IfSome store (λ s. s ≡ n) → IfSome (cond stored (snapshot_taken n store) store) (λ s. s ≡ n)
-    at_count false n store h = h
-    at_count true n None h = refl
-    at_count true n (Some s) h = h
 
     -- storage takes its snapshot
     pub selects : (stored : Bool) → Underway catalog tables order (selected stored order live)

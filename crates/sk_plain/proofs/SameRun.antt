@@ -14,8 +14,9 @@ use Rattle.sk_plain.specs.Standing.{Live, Standing, nothing_yet}
 use Rattle.sk_plain.proofs.Keeping.{desk_with, desk_of, live_kept, live_of, tables_now}
 use Rattle.sk_plain.proofs.KeptEnds.{gives_up_is}
 use Rattle.sk_plain.proofs.Promise.{Stands, says_by_stands, starts_settled}
+use Rattle.sk_plain.proofs.KeptInside.{Same, SoundBy}
+use Rattle.sk_plain.proofs.KeptTurns.{turn_is}
 use Rattle.sk_plain.proofs.Settled.{Settled}
-use Rattle.sk_plain.proofs.Stepping.{Same, SoundBy, turn_is}
 
 module _ (catalog : List Table) where
   -- what holds between two statements

@@ -12,6 +12,7 @@ use Rattle.sk_model.specs.Database.{Tables, after_write, after_writes}
 use Rattle.sk_model.specs.Replies.{Answer}
 use Rattle.sk_model.proofs.Lists.{each_append}
 use Rattle.sk_plain.specs.Standing.{Live, Standing, mem_count, store_count, started, heard, answered, selected, snapshot_taken}
+use Rattle.sk_plain.proofs.Answering.{at_count}
 use Rattle.sk_plain.proofs.Noting.{Inside}
 
 -- the snapshots hold all commits of their engines, the writes are to the database's tables, and these are as the writes leave them
@@ -25,11 +26,6 @@ pub sound_started : (k : TxKind) (st : Standing) → Sound st.tables st.order (s
 sound_started kind.Cross st = record { mem = refl; store = tt; leaves = refl; inside = tt }
 sound_started kind.Mem st = record { mem = refl; store = tt; leaves = refl; inside = tt }
 sound_started kind.Store st = record { mem = tt; store = refl; leaves = refl; inside = tt }
-
-at_count : (stored : Bool) (n : ℕ) (o : Option ℕ) → IfSome o (λ k. k ≡ n) → IfSome (cond stored (snapshot_taken n o) o) (λ k. k ≡ n)
-at_count false n o h = h
-at_count true n None h = refl
-at_count true n (Some k) h = h
 
 module _ (base : Tables) (order : List Commit) (live : Live) (sound : Sound base order live) where
   pub sound_heard : (s : Statement) (r : Reply) → Sound base order (heard live s r)
