@@ -8,7 +8,7 @@ use Rattle.sk_weave.specs.Weave.{upto, is_wanted, place}
 use Rattle.sk_plain.specs.Desk.{Drawn}
 use Rattle.sk_plain.specs.Playing.{later, seen_prefix}
 use Rattle.sk_plain.specs.Standing.{mem_count, store_count}
-use Rattle.sk_plain.proofs.Growing.{or_false, place_none}
+use Rattle.sk_plain.proofs.Growing.{place_none}
 
 later_is : (a b : ℕ) → later a b ≡ max a b
 later_is a b = by (nat_lt a b) refl

@@ -1,5 +1,5 @@
 -- What writes come to is of the engines that the writes are of.
-use Rattle.std.specs.Prelude.{◌≡◌, ℕ, Bool, true, false, cond, not, ◌||◌, List, [], ◌∷◌, map, Option}
+use Rattle.std.specs.Prelude.{◌≡◌, ℕ, Bool, true, false, not, ◌||◌, List, [], ◌∷◌, map}
 use Rattle.std.proofs.Common.{refl, sym, ap, ◌∙◌}
 use Rattle.std.specs.List.{fold, list_any}
 use Rattle.std.specs.declared.cmp.Ordering.{Ordering}
@@ -7,7 +7,7 @@ use Rattle.std.specs.declared.cmp.Ordering.TheVariants.{Less, Equal, Greater}
 use Rattle.std.specs.FinMap.Entries.{put, by_order}
 use Rattle.sk_rows.specs.declared.table.Table.{Table}
 use Rattle.sk_model.specs.declared.commit.Write.{Write}
-use Rattle.sk_model.specs.Database.{RowOf, Place, place_cmp, noted, net, write_of}
+use Rattle.sk_model.specs.Database.{Place, place_cmp, noted, net, write_of}
 use Rattle.sk_plain.specs.Standing.{is_stored, wrote}
 use Rattle.sk_plain.proofs.Growing.{or_false}
 use Rattle.sk_plain.proofs.NetWrites.{Noted}

@@ -2,7 +2,6 @@
 use Rattle.std.specs.Prelude.{List, map, Option, Some, None}
 use Rattle.sk_model.specs.declared.commit.Commit.{Commit}
 use Rattle.sk_model.specs.declared.record.Record.{Record}
-use Rattle.sk_model.specs.declared.reply.Reply.{Reply}
 use Rattle.sk_model.specs.Database.{Tables}
 use Rattle.sk_plain.specs.declared.turn.Turn.{Turn}
 use Rattle.sk_plain.specs.Desk.{Kept, KeptLive}
@@ -35,6 +34,10 @@ desk_with tables order records = record {
   mem = mem_numbers order;
   store = store_numbers order;
 }
+
+-- what is kept as this transaction is live
+abbrev pub desk_at : Standing → Live → Kept
+desk_at st live = desk_with live.tables st.order st.records
 
 abbrev pub desk_of : Standing → Kept
 desk_of st = desk_with (tables_now st.tables st.live) st.order st.records

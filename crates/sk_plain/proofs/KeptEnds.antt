@@ -22,7 +22,7 @@ use Rattle.sk_plain.proofs.Counting.{mem_after, store_after}
 use Rattle.sk_plain.proofs.Drawing.{wrote_net}
 use Rattle.sk_plain.proofs.Endings.{not_upto, none_drawn}
 use Rattle.sk_plain.proofs.Growing.{place_grows}
-use Rattle.sk_plain.proofs.Keeping.{kept_live, desk_with, desk_of}
+use Rattle.sk_plain.proofs.Keeping.{kept_live, desk_with, desk_at, desk_of}
 use Rattle.sk_plain.proofs.NetWrites.{some_net}
 use Rattle.sk_plain.proofs.Noting.{noted_before}
 use Rattle.sk_plain.proofs.Settled.{Settled, Holds, place_of}
@@ -48,7 +48,7 @@ module _ (order cs : List Commit) (unwanted : Unwanted order cs) where
 
 module _ (catalog : List Table) (st : Standing) (live : Live) (settled : Settled catalog st.tables st.order st.records) (sound : Sound st.tables st.order live) where
   abbrev desk : Kept
-  desk = desk_with live.tables st.order st.records
+  desk = desk_at st live
 
   abbrev kept : KeptLive
   kept = kept_live st.tables live
@@ -90,8 +90,7 @@ module _ (catalog : List Table) (st : Standing) (live : Live) (settled : Settled
       × (after_draw store (length st.order + 1) (store_numbers st.order) ≡ store_numbers (st.order ++ committed_as r ws))
       × Unwanted st.order (committed_as r ws)
   numbers [] is =
-      let none : some_writes live.writes ≡ false = sym (some_net live.writes) ∙ ap some_writes is in
-      (
+      let none : some_writes live.writes ≡ false = sym (some_net live.writes) ∙ ap some_writes is in (
         ap (λ o. after_draw o (length st.order + 1) (mem_numbers st.order)) (none_drawn catalog false (mem_count st.order) live.writes none) ∙ ap mem_numbers (sym (append-nil st.order)),
         ap (λ o. after_draw o (length st.order + 1) (store_numbers st.order)) (none_drawn catalog true (store_count st.order) live.writes none) ∙ ap store_numbers (sym (append-nil st.order)),
         λ m s p q. refl,

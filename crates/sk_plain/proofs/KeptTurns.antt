@@ -1,40 +1,32 @@
 -- Each statement makes of what a run keeps what it makes of what stands.
-use Rattle.std.specs.Prelude.{◌≡◌, ℕ, ◌+◌, ◌<◌, Bool, true, false, cond, nat_lt, List, [], ◌∷◌, ◌++◌, length, Option, Some, None}
+use Rattle.std.specs.Prelude.{◌≡◌, ℕ, ◌<◌, Bool, true, false, cond, List, [], ◌∷◌, length, Option, Some, None}
 use Rattle.std.proofs.Common.{refl, sym, ap, subst, ◌∙◌, arith}
-use Rattle.std.proofs.lemmas.Bool.{lt-ltb}
 use Rattle.std.proofs.lemmas.List.{length-map}
 use Rattle.sk_rows.specs.declared.table.Table.{Table}
 use Rattle.sk_rows.specs.declared.statement.Statement.{Statement}
 use Rattle.sk_rows.specs.declared.statement.Statement.TheVariants as statement
-use Rattle.sk_model.specs.declared.commit.Write.{Write}
 use Rattle.sk_model.specs.declared.commit.Commit.{Commit}
 use Rattle.sk_model.specs.declared.reply.ErrWord.{ErrWord}
 use Rattle.sk_model.specs.declared.reply.ErrWord.TheVariants as err
 use Rattle.sk_model.specs.declared.reply.Reply.{Reply}
 use Rattle.sk_model.specs.declared.reply.Reply.TheVariants as reply
 use Rattle.sk_model.specs.declared.record.TxKind.{TxKind}
-use Rattle.sk_model.specs.declared.record.TxKind.TheVariants as kind
-use Rattle.sk_model.specs.Database.{Tables, table_of, after_writes, after_commit, state}
+use Rattle.sk_model.specs.Database.{Tables, after_commit, state}
 use Rattle.sk_model.specs.Names.{columns_at}
-use Rattle.sk_model.specs.Reads.{rows_read}
-use Rattle.sk_model.specs.Replies.{Answer, key_read, refusal_in}
-use Rattle.sk_model.proofs.Lists.{each_weaker}
-use Rattle.sk_plain.specs.declared.turn.Turn.{Turn}
-use Rattle.sk_plain.specs.Before.{before_all}
+use Rattle.sk_model.specs.Replies.{Answer, refusal_in}
 use Rattle.sk_plain.specs.Desk.{Kept, KeptLive}
 use Rattle.sk_plain.specs.Playing as playing
-use Rattle.sk_plain.specs.Playing.{start, hear, select, snapshot_for, with_writes, keep_before, give_up, commit}
+use Rattle.sk_plain.specs.Playing.{start, hear, keep_before, give_up, commit}
 use Rattle.sk_plain.specs.Session as session
 use Rattle.sk_plain.specs.Session.{answer_at, engine_kind, is_refused, named}
-use Rattle.sk_plain.specs.Standing.{Live, Standing, opening_of, is_stored, store_count, next_label, kind_of, may_use, started, heard, answered, selected, snapshot_taken, with_live, committed, given_up}
-use Rattle.sk_plain.proofs.Answering.{Writes, answer_writes}
-use Rattle.sk_plain.proofs.Keeping.{kept_live, live_kept, tables_now, desk_with, desk_of, live_of, turn_of}
+use Rattle.sk_plain.specs.Standing.{Live, Standing, opening_of, is_stored, next_label, kind_of, started, heard, answered, committed, given_up}
+use Rattle.sk_plain.proofs.Keeping.{kept_live, live_kept, tables_now, desk_with, desk_at, desk_of, live_of}
 use Rattle.sk_plain.proofs.KeptEnds.{gives_up_is, commits_is}
 use Rattle.sk_plain.proofs.Named.{is_inside}
-use Rattle.sk_plain.proofs.Noting.{Inside, noted_before, before_all_is}
+use Rattle.sk_plain.proofs.Noting.{Inside}
 use Rattle.sk_plain.proofs.RowWrites.{writes_keep_length}
 use Rattle.sk_plain.proofs.Settled.{Settled}
-use Rattle.sk_plain.proofs.Sound.{Sound, sound_started, sound_heard, sound_selected, sound_answered}
+use Rattle.sk_plain.proofs.Sound.{Sound, sound_started, sound_heard, sound_answered}
 use Rattle.sk_plain.proofs.KeptInside.{SoundBy, Same, start_is, answer_inside, with_writes_is, hear_is, told_is, kept_is, inside_is}
 
 commits_keep_length : (cs : List Commit) (db : Tables) → length (state db cs) ≡ length db
@@ -53,23 +45,24 @@ module _ (catalog : List Table) (st : Standing) (settled : Settled catalog st.ta
   within : (s : Statement) (t : ℕ) → named catalog s ≡ Some t → t < length st.tables
   within s t is = omega (arith, is_inside catalog s t is, as_many catalog st.order st.tables settled.is)
 
-  -- a statement of the live transaction
+  -- the transaction ends
   module _ (live : Live) (sound : Sound st.tables st.order live) where
-    rolls_back : (r : Reply) → Same (playing.no_live (give_up (desk_with live.tables st.order st.records) (kept_live st.tables live)) r) (given_up st live, r)
+    rolls_back : (r : Reply) → Same (playing.no_live (give_up (desk_at st live) (kept_live st.tables live)) r) (given_up st live, r)
     rolls_back r = record { is = ap (λ desk. playing.no_live desk r) (gives_up_is catalog st live settled sound); sound = tt }
 
-    makes_commit : (r : Reply) → Same (playing.no_live (commit catalog (desk_with live.tables st.order st.records) (kept_live st.tables live)) r) (committed catalog st live, r)
+    makes_commit : (r : Reply) → Same (playing.no_live (commit catalog (desk_at st live) (kept_live st.tables live)) r) (committed catalog st live, r)
     makes_commit r = record { is = ap (λ desk. playing.no_live desk r) (commits_is catalog st live settled sound); sound = tt }
 
+  -- a statement of the live transaction
   module _ (live : Live) (sound : Sound st.tables st.order live) where
-    inside_says_is : (s : Statement) → Same (playing.says_inside catalog (desk_with live.tables st.order st.records) (kept_live st.tables live) s) (session.says_inside catalog st live s)
+    inside_says_is : (s : Statement) → Same (playing.says_inside catalog (desk_at st live) (kept_live st.tables live) s) (session.says_inside catalog st live s)
     inside_says_is (statement.Begin begun) = told_is st live sound (statement.Begin begun) (reply.Refused err.InTransaction)
     inside_says_is statement.Commit =
-        subst (λ kept. Same (playing.no_live (commit catalog (desk_with live.tables st.order st.records) kept) reply.Committed) (committed catalog st (heard live statement.Commit reply.Committed), reply.Committed))
+        subst (λ kept. Same (playing.no_live (commit catalog (desk_at st live) kept) reply.Committed) (committed catalog st (heard live statement.Commit reply.Committed), reply.Committed))
         (sym (hear_is st live sound statement.Commit reply.Committed))
         (makes_commit (heard live statement.Commit reply.Committed) (sound_heard st.tables st.order live sound statement.Commit reply.Committed) reply.Committed)
     inside_says_is statement.Rollback =
-        subst (λ kept. Same (playing.no_live (give_up (desk_with live.tables st.order st.records) kept) reply.RolledBack) (given_up st (heard live statement.Rollback reply.RolledBack), reply.RolledBack))
+        subst (λ kept. Same (playing.no_live (give_up (desk_at st live) kept) reply.RolledBack) (given_up st (heard live statement.Rollback reply.RolledBack), reply.RolledBack))
         (sym (hear_is st live sound statement.Rollback reply.RolledBack))
         (rolls_back (heard live statement.Rollback reply.RolledBack) (sound_heard st.tables st.order live sound statement.Rollback reply.RolledBack) reply.RolledBack)
     inside_says_is (statement.Insert table values) = inside_is st live sound catalog (statement.Insert table values) (named catalog (statement.Insert table values)) (within (statement.Insert table values))
@@ -81,16 +74,16 @@ module _ (catalog : List Table) (st : Standing) (settled : Settled catalog st.ta
   desk = desk_with st.tables st.order st.records
 
   -- a small transaction behind its one statement
-  closes_is : (live : Live) → Sound st.tables st.order live → (r : Reply) → Same (playing.closes catalog (desk_with live.tables st.order st.records) (kept_live st.tables live) r) (session.closed catalog (resting st) live r)
+  closes_is : (live : Live) → Sound st.tables st.order live → (r : Reply) → Same (playing.closes catalog (desk_at st live) (kept_live st.tables live) r) (session.closed catalog (resting st) live r)
   closes_is live sound r = by (is_refused r)
     where
       by : (b : Bool)
-          → Same (playing.no_live (cond b (give_up (desk_with live.tables st.order st.records) (kept_live st.tables live)) (commit catalog (desk_with live.tables st.order st.records) (kept_live st.tables live))) r)
+          → Same (playing.no_live (cond b (give_up (desk_at st live) (kept_live st.tables live)) (commit catalog (desk_at st live) (kept_live st.tables live))) r)
           (cond b (given_up st live) (committed catalog st live), r)
       by true = rolls_back live sound r
       by false = makes_commit live sound r
 
-  outside_at_is : (s : Statement) (t : ℕ) (o : Option ErrWord) → t < length st.tables → Same (playing.outside_at catalog desk s t o) (session.outside_at catalog (resting st) s t o)
+  outside_at_is : (s : Statement) (t : ℕ) (o : Option ErrWord) → t < length st.tables → Same (playing.outside_at catalog (columns_at catalog t) (is_stored catalog t) desk s t o) (session.outside_at catalog (resting st) s t o)
   outside_at_is s t (Some word) l = record { is = refl; sound = tt }
   outside_at_is s t None l =
       let k : TxKind = engine_kind (is_stored catalog t) in

@@ -14,6 +14,7 @@ pub mod KeptTurns
 pub mod Named
 pub mod NetWrites
 pub mod Noting
+pub mod Parts
 pub mod Promise
 pub mod RowWrites
 pub mod SameRun

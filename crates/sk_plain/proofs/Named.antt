@@ -1,13 +1,14 @@
 -- The table that a statement names is one of the catalog.
-use Rattle.std.specs.Prelude.{◌≡◌, ℕ, ◌<◌, zero, suc, List, [], ◌∷◌, Option, Some, None, Bool, false, length, map, get_or, position, slice_get}
+use Rattle.std.specs.Prelude.{◌≡◌, ℕ, ◌<◌, zero, suc, List, [], ◌∷◌, Option, Some, None, Bool, false, length, map, get_or, option_and_then, position, slice_get}
 use Rattle.std.specs.Str.{bytes_eq}
-use Rattle.std.proofs.Common.{sym, ap, arith}
+use Rattle.std.proofs.Common.{refl, sym, ap, arith, ◌∙◌}
 use Rattle.std.proofs.lemmas.List.Quantifiers.{position-Some}
 use Rattle.sk_rows.specs.declared.table.Column.{Column}
 use Rattle.sk_rows.specs.declared.table.Table.{Table}
 use Rattle.sk_rows.specs.declared.statement.Statement.{Statement}
 use Rattle.sk_rows.specs.declared.statement.Statement.TheVariants as statement
-use Rattle.sk_model.specs.Names.{columns_at}
+use Rattle.sk_model.specs.Names.{columns_at, table_at}
+use Rattle.sk_model.specs.Replies.{table_said}
 use Rattle.sk_plain.specs.Session.{named}
 use Rattle.sk_plain.specs.Standing.{is_stored}
 
@@ -22,11 +23,36 @@ told_at f d [] t table is = absurd cc
 told_at f d (x ∷ catalog) zero table is = sym (ap (told f d) is)
 told_at f d (x ∷ catalog) (suc t) table is = told_at f d catalog t table is
 
+-- nothing is told of a table that is not there
+not_told : {X : Type 0} (f : Table → X) (d : X) (catalog : List Table) (t : ℕ) → slice_get catalog t ≡ None → d ≡ get_or (map f catalog) t d
+not_told f d [] t is = refl
+not_told f d (x ∷ catalog) zero is = absurd cc
+not_told f d (x ∷ catalog) (suc t) is = not_told f d catalog t is
+
 pub columns_are : (catalog : List Table) (t : ℕ) (table : Table) → slice_get catalog t ≡ Some table → table.columns ≡ columns_at catalog t
 columns_are catalog t table is = told_at (λ (x : Table). x.columns) [] catalog t table is
 
 pub stored_is : (catalog : List Table) (t : ℕ) (table : Table) → slice_get catalog t ≡ Some table → table.store ≡ is_stored catalog t
 stored_is catalog t table is = told_at (λ (x : Table). x.store) false catalog t table is
+
+pub none_stored : (catalog : List Table) (t : ℕ) → slice_get catalog t ≡ None → false ≡ is_stored catalog t
+none_stored catalog t is = not_told (λ (x : Table). x.store) false catalog t is
+
+-- the table of a statement is found by its name, where it has one
+pub named_is : (catalog : List Table) (s : Statement) → named catalog s ≡ option_and_then (table_at catalog) (table_said s)
+named_is catalog (statement.Begin begun) = refl
+named_is catalog statement.Commit = refl
+named_is catalog statement.Rollback = refl
+named_is catalog (statement.Insert table values) = refl
+named_is catalog (statement.Select table names e) = refl
+named_is catalog (statement.Update table sets e) = refl
+named_is catalog (statement.Delete table e) = refl
+
+pub none_named : (catalog : List Table) (s : Statement) → table_said s ≡ None → None ≡ named catalog s
+none_named catalog s is = sym (named_is catalog s ∙ ap (option_and_then (table_at catalog)) is)
+
+pub some_named : (catalog : List Table) (s : Statement) (name : List ℕ) → table_said s ≡ Some name → table_at catalog name ≡ named catalog s
+some_named catalog s name is = sym (named_is catalog s ∙ ap (option_and_then (table_at catalog)) is)
 
 missing : {A X : Type 0} (xs : List X) (i : ℕ) → slice_get xs i ≡ None → i < length xs → A
 missing [] i is l = absurd (omega arith)

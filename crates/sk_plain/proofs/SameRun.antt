@@ -3,7 +3,6 @@ use Rattle.std.specs.Prelude.{◌≡◌, List, [], ◌∷◌, map, Option, Some,
 use Rattle.std.proofs.Common.{refl, ap, ◌∙◌}
 use Rattle.sk_rows.specs.declared.table.Table.{Table}
 use Rattle.sk_rows.specs.declared.statement.Statement.{Statement}
-use Rattle.sk_model.specs.declared.reply.Reply.{Reply}
 use Rattle.sk_weave.specs.Weave.{place}
 use Rattle.sk_plain.specs.declared.played.Played.{Played}
 use Rattle.sk_plain.specs.declared.turn.Turn.{Turn}
@@ -14,7 +13,7 @@ use Rattle.sk_plain.specs.Standing.{Live, Standing, nothing_yet}
 use Rattle.sk_plain.proofs.Keeping.{desk_with, desk_of, live_kept, live_of, tables_now}
 use Rattle.sk_plain.proofs.KeptEnds.{gives_up_is}
 use Rattle.sk_plain.proofs.Promise.{Stands, says_by_stands, starts_settled}
-use Rattle.sk_plain.proofs.KeptInside.{Same, SoundBy}
+use Rattle.sk_plain.proofs.KeptInside.{SoundBy}
 use Rattle.sk_plain.proofs.KeptTurns.{turn_is}
 use Rattle.sk_plain.proofs.Settled.{Settled}
 

@@ -1,9 +1,8 @@
 -- What a live transaction's snapshots and writes are, between its statements.
-use Rattle.std.specs.Prelude.{◌≡◌, ℕ, Bool, true, false, cond, List, ◌++◌, length, Option, Some, None, IfSome}
+use Rattle.std.specs.Prelude.{◌≡◌, Bool, List, length, IfSome}
 use Rattle.std.proofs.Common.{refl, ap, ◌∙◌}
 use Rattle.std.proofs.lemmas.List.Sums.{fold-append}
 use Rattle.sk_rows.specs.declared.statement.Statement.{Statement}
-use Rattle.sk_model.specs.declared.commit.Write.{Write}
 use Rattle.sk_model.specs.declared.commit.Commit.{Commit}
 use Rattle.sk_model.specs.declared.reply.Reply.{Reply}
 use Rattle.sk_model.specs.declared.record.TxKind.{TxKind}
@@ -11,7 +10,7 @@ use Rattle.sk_model.specs.declared.record.TxKind.TheVariants as kind
 use Rattle.sk_model.specs.Database.{Tables, after_write, after_writes}
 use Rattle.sk_model.specs.Replies.{Answer}
 use Rattle.sk_model.proofs.Lists.{each_append}
-use Rattle.sk_plain.specs.Standing.{Live, Standing, mem_count, store_count, started, heard, answered, selected, snapshot_taken}
+use Rattle.sk_plain.specs.Standing.{Live, Standing, mem_count, store_count, started, heard, answered, selected}
 use Rattle.sk_plain.proofs.Answering.{at_count}
 use Rattle.sk_plain.proofs.Noting.{Inside}
 

@@ -1,9 +1,8 @@
 -- What was noted gives a transaction's tables back what they were, and tells what its writes come to.
-use Rattle.std.specs.Prelude.{◌≡◌, ℕ, ◌<◌, Bool, true, false, cond, nat_lt, T, ◌&&◌, List, [], ◌∷◌, length, map, Option, Some, None}
+use Rattle.std.specs.Prelude.{◌≡◌, ℕ, ◌<◌, false, cond, nat_lt, T, ◌&&◌, List, [], ◌∷◌, length, map, Option, Some, None}
 use Rattle.std.proofs.Common.{refl, sym, ap, subst, ◌∙◌, arith}
 use Rattle.std.specs.List.{fold, AllByRecursion}
 use Rattle.std.specs.Option.{option_map}
-use Rattle.std.specs.declared.cmp.Ordering.{Ordering}
 use Rattle.std.specs.declared.cmp.Ordering.TheVariants.{Less}
 use Rattle.std.specs.Ordering.{is_eq, is_lt, ordering_reverse}
 use Rattle.std.specs.Cmp.{tied_itself}
@@ -12,8 +11,8 @@ use Rattle.std.proofs.lemmas.Bool.{ltb-true}
 use Rattle.sk_rows.specs.declared.value.Value.{Value}
 use Rattle.sk_model.specs.declared.commit.Write.{Write}
 use Rattle.sk_model.specs.Database.{RowOf, Tables, Place, place_cmp, noted, net, write_of, row_of, after_writes}
-use Rattle.sk_plain.specs.Before.{write_at, writes_at}
-use Rattle.sk_plain.proofs.RowWrites.{InOrder, latest, row_after_writes, writes_keep_length, writes_keep_order, same_tables}
+use Rattle.sk_plain.specs.Before.{writes_at}
+use Rattle.sk_plain.proofs.RowWrites.{InOrder, row_after_writes, writes_keep_length, writes_keep_order, same_tables}
 use Rattle.sk_plain.proofs.NetWrites.{Noted, parts, place_cmp_total, or_had, latest_is_found, noted_sorted, net_of}
 use Rattle.sk_plain.proofs.Noting.{Inside, as_was, noted_before, find_as_was, row_after, lesser}
 

@@ -7,6 +7,7 @@ use Rattle.sk_model.specs.declared.record.Said.{Said}
 use Rattle.sk_model.specs.declared.record.Record.{Record}
 use Rattle.sk_model.specs.declared.record.TxKind.{TxKind}
 use Rattle.sk_model.specs.Database.{Tables}
+use Rattle.sk_plain.specs.declared.numbers.Numbers.{Numbers}
 use Rattle.sk_plain.specs.Before.{PlacedRows}
 
 -- a live transaction
@@ -17,10 +18,8 @@ pub record KeptLive : Type 0 where
   pub said : List Said
   pub before : PlacedRows
 
--- one engine: how many commits drew a number there, and the length of the shortest prefix that holds them
-pub record Drawn : Type 0 where
-  pub count : ℕ
-  pub prefix : ℕ
+abbrev pub Drawn : Type 0
+Drawn = Numbers
 
 pub record Kept : Type 0 where
   pub tables : Tables

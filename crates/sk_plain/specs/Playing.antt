@@ -1,5 +1,6 @@
 -- What a statement makes of what a run keeps.
 use Rattle.std.specs.Prelude.{ℕ, ◌+◌, List, [], ◌∷◌, ◌++◌, length, Option, Some, None, Bool, true, false, cond, is_some, map, nat_lt}
+use Rattle.sk_rows.specs.declared.table.Column.{Column}
 use Rattle.sk_rows.specs.declared.table.Table.{Table}
 use Rattle.sk_rows.specs.declared.statement.Begun.{Begun}
 use Rattle.sk_rows.specs.declared.statement.Statement.{Statement}
@@ -17,14 +18,15 @@ use Rattle.sk_model.specs.declared.record.TxKind.{TxKind}
 use Rattle.sk_model.specs.declared.record.TxKind.TheVariants as kind
 use Rattle.sk_model.specs.declared.record.Ending.{Ending}
 use Rattle.sk_model.specs.declared.record.Ending.TheVariants as ending
-use Rattle.sk_model.specs.Database.{Tables, after_writes, write_of}
+use Rattle.sk_model.specs.Database.{Tables, table_of, after_writes, write_of}
 use Rattle.sk_model.specs.Names.{columns_at}
-use Rattle.sk_model.specs.Records.{committed_as}
-use Rattle.sk_model.specs.Replies.{Answer, refusal_in}
+use Rattle.sk_model.specs.Reads.{rows_read}
+use Rattle.sk_model.specs.Records.{committed_as, some_writes}
+use Rattle.sk_model.specs.Replies.{Answer, comes_to, key_read, refusal_in}
 use Rattle.sk_plain.specs.declared.turn.Turn.{Turn}
 use Rattle.sk_plain.specs.Before.{before_all, writes_at}
 use Rattle.sk_plain.specs.Desk.{Drawn, Kept, KeptLive}
-use Rattle.sk_plain.specs.Session.{answer_at, engine_kind, is_refused, named}
+use Rattle.sk_plain.specs.Session.{engine_kind, is_refused, named}
 use Rattle.sk_plain.specs.Standing.{drawn, is_stored, kind_of, may_use, opening_of, wrote}
 
 abbrev pub none_drawn : Drawn
@@ -77,17 +79,22 @@ told desk live s r = record { desk = desk; live = Some (hear live s r); reply = 
 abbrev pub answered : Kept → KeptLive → Statement → Answer → Turn
 answered desk live s a = told (with_writes desk a.1) (keep_before desk.tables live a.1) s a.0
 
+-- what a statement comes to over table t, which has these columns
+abbrev pub answer_in : List Column → Tables → Statement → ℕ → Answer
+answer_in columns tables s t = comes_to columns t s (rows_read (table_of tables t) (key_read columns s))
+
+-- inside a transaction, over a table that it may use
+abbrev pub inside_allowed : List Column → Bool → Kept → KeptLive → Statement → ℕ → Turn
+inside_allowed columns stored desk live s t = answered desk (select stored desk.store.count live) s (answer_in columns desk.tables s t)
+
 -- inside a transaction, over table t, where this refuses it whatever rows there are
-abbrev pub inside_at : List Table → Kept → KeptLive → Statement → ℕ → Option ErrWord → Turn
-inside_at catalog desk live s t (Some word) = told desk live s (reply.Refused word)
-inside_at catalog desk live s t None =
-    cond (may_use live.kind (is_stored catalog t))
-      (answered desk (select (is_stored catalog t) desk.store.count live) s (answer_at catalog desk.tables s t))
-      (told desk live s (reply.Refused err.Engine))
+abbrev pub inside_at : List Column → Bool → Kept → KeptLive → Statement → ℕ → Option ErrWord → Turn
+inside_at columns stored desk live s t (Some word) = told desk live s (reply.Refused word)
+inside_at columns stored desk live s t None = cond (may_use live.kind stored) (inside_allowed columns stored desk live s t) (told desk live s (reply.Refused err.Engine))
 
 abbrev pub inside : List Table → Kept → KeptLive → Statement → Option ℕ → Turn
 inside catalog desk live s None = told desk live s (reply.Refused err.Table)
-inside catalog desk live s (Some t) = inside_at catalog desk live s t (refusal_in (columns_at catalog t) s)
+inside catalog desk live s (Some t) = inside_at (columns_at catalog t) (is_stored catalog t) desk live s t (refusal_in (columns_at catalog t) s)
 
 -- where there is a snapshot, the prefix that holds what it sees
 abbrev pub seen_prefix : Option ℕ → Drawn → ℕ
@@ -117,6 +124,21 @@ record_for label live ending mem store = record {
   drew_mem = mem;
   drew_store = store;
   made = [];
+}
+
+-- one more record with its place
+unfoldable pub with_record : Kept → Record → ℕ → Kept
+with_record desk r p = record { tables = desk.tables; order = desk.order; records = desk.records ++ r ∷ []; places = desk.places ++ p ∷ []; mem = desk.mem; store = desk.store }
+
+-- one more commit, where it wrote something
+unfoldable pub with_commit : Kept → Commit → Kept
+with_commit desk c = record {
+  tables = desk.tables;
+  order = desk.order ++ cond (some_writes c.writes) (c ∷ []) [];
+  records = desk.records;
+  places = desk.places;
+  mem = after_draw c.mem (length desk.order + 1) desk.mem;
+  store = after_draw c.store (length desk.order + 1) desk.store;
 }
 
 -- the transaction commits these writes with these numbers
@@ -156,16 +178,19 @@ no_live desk r = record { desk = desk; live = None; reply = r }
 abbrev pub closes : List Table → Kept → KeptLive → Reply → Turn
 closes catalog desk live r = no_live (cond (is_refused r) (give_up desk live) (commit catalog desk live)) r
 
-abbrev pub outside_at : List Table → Kept → Statement → ℕ → Option ErrWord → Turn
-outside_at catalog desk s t (Some word) = no_live desk (reply.Refused word)
-outside_at catalog desk s t None =
-    let a = answer_at catalog desk.tables s t in
-    let live = hear (keep_before desk.tables (start (engine_kind (is_stored catalog t)) desk) a.1) s a.0 in
-    closes catalog (with_writes desk a.1) live a.0
+-- outside a transaction, over a table: one of that table's engine alone
+abbrev pub outside_allowed : List Table → List Column → Bool → Kept → Statement → ℕ → Turn
+outside_allowed catalog columns stored desk s t =
+    let a = answer_in columns desk.tables s t in
+    closes catalog (with_writes desk a.1) (hear (keep_before desk.tables (start (engine_kind stored) desk) a.1) s a.0) a.0
+
+abbrev pub outside_at : List Table → List Column → Bool → Kept → Statement → ℕ → Option ErrWord → Turn
+outside_at catalog columns stored desk s t (Some word) = no_live desk (reply.Refused word)
+outside_at catalog columns stored desk s t None = outside_allowed catalog columns stored desk s t
 
 abbrev pub outside : List Table → Kept → Statement → Option ℕ → Turn
 outside catalog desk s None = no_live desk (reply.Refused err.Table)
-outside catalog desk s (Some t) = outside_at catalog desk s t (refusal_in (columns_at catalog t) s)
+outside catalog desk s (Some t) = outside_at catalog (columns_at catalog t) (is_stored catalog t) desk s t (refusal_in (columns_at catalog t) s)
 
 abbrev pub begins : Kept → Begun → Turn
 begins desk begun = told desk (start (kind_of begun) desk) (statement.Begin begun) (reply.Began (label_next desk))
@@ -176,10 +201,16 @@ says_outside catalog desk statement.Commit = no_live desk (reply.Refused err.NoT
 says_outside catalog desk statement.Rollback = no_live desk (reply.Refused err.NoTransaction)
 says_outside catalog desk s = outside catalog desk s (named catalog s)
 
+abbrev pub commits : List Table → Kept → KeptLive → Turn
+commits catalog desk live = no_live (commit catalog desk (hear live statement.Commit reply.Committed)) reply.Committed
+
+abbrev pub gives_up : Kept → KeptLive → Turn
+gives_up desk live = no_live (give_up desk (hear live statement.Rollback reply.RolledBack)) reply.RolledBack
+
 abbrev pub says_inside : List Table → Kept → KeptLive → Statement → Turn
 says_inside catalog desk live (statement.Begin begun) = told desk live (statement.Begin begun) (reply.Refused err.InTransaction)
-says_inside catalog desk live statement.Commit = no_live (commit catalog desk (hear live statement.Commit reply.Committed)) reply.Committed
-says_inside catalog desk live statement.Rollback = no_live (give_up desk (hear live statement.Rollback reply.RolledBack)) reply.RolledBack
+says_inside catalog desk live statement.Commit = commits catalog desk live
+says_inside catalog desk live statement.Rollback = gives_up desk live
 says_inside catalog desk live s = inside catalog desk live s (named catalog s)
 
 -- what a statement makes of what is kept, with its reply

@@ -18,6 +18,7 @@ use std::alloc::Global;
 /// A reply, and the writes that come with it.
 pub(crate) type Answer = (Reply, WriteList);
 
+#[tactic(auto, using(crate::proofs::Named::none_named))]
 fn number_of(catalog: &Catalog, statement: &Statement) -> Option<u16>
     ensures { result ≡ named_in catalog.now statement.now }
 {

@@ -2,6 +2,7 @@
 
 use crate::before::Before;
 use crate::maps::RowMap;
+use crate::numbers::Numbers;
 use sk_model::{CommitList, PlaceList, RecordList, SaidList, TxKind};
 use std::marker::Model;
 
@@ -30,15 +31,6 @@ impl Model for Live {
     ghost view = { λ l. record { kind = l.kind; mem = l.mem; store = l.store; said = l.said; before = l.before.entries } };
 }
 
-/// One engine's numbers.
-#[derive(Clone, Copy)]
-pub(crate) struct Numbers {
-    /// How many commits drew a number.
-    pub(crate) count: u32,
-    /// The length of the shortest prefix of the commits that holds them.
-    pub(crate) prefix: u32,
-}
-
 /// What a run keeps, beside the live transaction.
 #[derive(Drop)]
 pub(crate) struct Desk {
@@ -64,5 +56,5 @@ impl Model for Desk {
 
     ghost coded = { Prim.hlevel (codes, e.the_row.coded) };
 
-    ghost view = { λ d. record { tables = shown d.tables.items; order = d.order; records = d.records; places = d.places; mem = record { count = d.mem.count; prefix = d.mem.prefix }; store = record { count = d.store.count; prefix = d.store.prefix } } };
+    ghost view = { λ d. record { tables = shown d.tables.items; order = d.order; records = d.records; places = d.places; mem = d.mem; store = d.store } };
 }

@@ -7,7 +7,9 @@ mod desk;
 mod ending;
 mod live;
 mod maps;
+mod numbers;
 mod played;
+mod session;
 mod turn;
 
 pub use played::Played;
