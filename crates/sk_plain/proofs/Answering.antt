@@ -31,7 +31,7 @@ use Rattle.sk_plain.proofs.Telling.{count_judged}
 use Rattle.sk_plain.proofs.Underway.{Underway, Runs, is_covered, runs_none, runs_more, runs_wider}
 
 -- what does not count writes nothing, and what is written is of this table
-abbrev Writes : ℕ → Answer → Type 0
+abbrev pub Writes : ℕ → Answer → Type 0
 Writes t a = (cond (is_count a.0) a.1 [] ≡ a.1) × AllByRecursion (λ (w : Write). w.table ≡ t) a.1
 
 each_row : (t : ℕ) (f : Value × RowOf → Write) → ((e : Value × RowOf) → (f e).table ≡ t) → (rows : KeyedRows) → AllByRecursion (λ (w : Write). w.table ≡ t) (map f rows)
@@ -58,7 +58,7 @@ deleted_writes : (t : ℕ) (r : Result KeyedRows ValueFault) → Writes t (delet
 deleted_writes t (Err fault) = (refl, tt)
 deleted_writes t (Ok rows) = (refl, each_row t (row_gone t) (λ e. refl) rows)
 
-answer_writes : (columns : List Column) (t : ℕ) (s : Statement) (rows : KeyedRows) → Writes t (comes_to columns t s rows)
+pub answer_writes : (columns : List Column) (t : ℕ) (s : Statement) (rows : KeyedRows) → Writes t (comes_to columns t s rows)
 answer_writes columns t (statement.Begin begun) rows = (refl, tt)
 answer_writes columns t statement.Commit rows = (refl, tt)
 answer_writes columns t statement.Rollback rows = (refl, tt)
@@ -81,6 +81,12 @@ no_count r e = by (is_count r) refl
     by : (b : Bool) → is_count r ≡ b → is_count r ≡ false
     by true c = let j : is_judged r ≡ true = count_judged r c in absurd cc
     by false c = c
+
+-- a snapshot that is taken at a count, or was there with it
+pub at_count : (stored : Bool) (n : ℕ) (store : Option ℕ) → IfSome store (λ s. s ≡ n) → IfSome (cond stored (snapshot_taken n store) store) (λ s. s ≡ n)
+at_count false n store h = h
+at_count true n None h = refl
+at_count true n (Some s) h = h
 
 module _ (catalog : List Table) (tables : Tables) (order : List Commit) where
   module _ (live : Live) (under : Underway catalog tables order live) where
@@ -125,11 +131,6 @@ module _ (catalog : List Table) (tables : Tables) (order : List Commit) where
     wider true false n mem store e = e
     wider true true n mem None e = refl
     wider true true n mem (Some s) e = e
-
-    at_count : (stored : Bool) (n : ℕ) (store : Option ℕ) → IfSome store (λ s. s ≡ n) → IfSome (cond stored (snapshot_taken n store) store) (λ s. s ≡ n)
-    at_count false n store h = h
-    at_count true n None h = refl
-    at_count true n (Some s) h = h
 
     -- storage takes its snapshot
     pub selects : (stored : Bool) → Underway catalog tables order (selected stored order live)

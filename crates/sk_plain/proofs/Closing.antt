@@ -28,7 +28,7 @@ use Rattle.sk_plain.proofs.Settled.{Holds, Settled, Adds, place_of, at_most_more
 abbrev pub next : List Record → Label
 next records = record { session = 1; k = length records + 1 }
 
-at_most_snapshot : (o : Option ℕ) (n m : ℕ) → n ≤ m → IfSome o (λ k. k ≡ n) → AtMost o m
+pub at_most_snapshot : (o : Option ℕ) (n m : ℕ) → n ≤ m → IfSome o (λ k. k ≡ n) → AtMost o m
 at_most_snapshot None n m l is = tt
 at_most_snapshot (Some k) n m l is = omega arith
 

@@ -24,7 +24,7 @@ adds_none : (catalog : List Table) (order : List Commit) (label : Label) → Add
 adds_none catalog order label = record { unwanted = λ m s p q. refl; labels = tt; numbered = tt }
 
 -- no snapshot up to n holds the number that is drawn past n
-not_upto : (m : Option ℕ) (b : Bool) (n : ℕ) → AtMost m n → upto m (drawn b n) ≡ false
+pub not_upto : (m : Option ℕ) (b : Bool) (n : ℕ) → AtMost m n → upto m (drawn b n) ≡ false
 not_upto None b n l = refl
 not_upto (Some k) false n l = refl
 not_upto (Some k) true n l = lt-leb (n + 1) k (omega arith)
@@ -66,7 +66,7 @@ all_drawn catalog mems stores ws =
     by true f g = drawn_some (wrote catalog true ws) stores (g refl)
     by false f g = drawn_some (wrote catalog false ws) mems (f refl)
 
-none_drawn : (catalog : List Table) (b : Bool) (n : ℕ) (ws : List Write) → some_writes ws ≡ false → drawn (wrote catalog b ws) n ≡ None
+pub none_drawn : (catalog : List Table) (b : Bool) (n : ℕ) (ws : List Write) → some_writes ws ≡ false → drawn (wrote catalog b ws) n ≡ None
 none_drawn catalog true n [] e = refl
 none_drawn catalog false n [] e = refl
 none_drawn catalog b n (w ∷ ws) e = absurd cc

@@ -12,11 +12,11 @@ use Rattle.sk_model.specs.declared.commit.Commit.{Commit}
 use Rattle.sk_model.specs.Records.{clashes, FirstWins, same_label, own_place}
 use Rattle.sk_weave.specs.Weave.{is_wanted, place}
 
-or_false : (b : Bool) → (b || false) ≡ b
+pub or_false : (b : Bool) → (b || false) ≡ b
 or_false true = refl
 or_false false = refl
 
-place_none : (cs : List Commit) (m s : Option ℕ) → list_any (is_wanted m s) cs ≡ false → place cs m s ≡ 0
+pub place_none : (cs : List Commit) (m s : Option ℕ) → list_any (is_wanted m s) cs ≡ false → place cs m s ≡ 0
 place_none [] m s e = refl
 place_none (c ∷ cs) m s e = rw e refl
 

@@ -17,10 +17,10 @@ use Rattle.sk_model.specs.Database.{RowOf, Tables, Place, place_cmp, hits, after
 use Rattle.sk_model.specs.Records.{some_writes}
 use Rattle.sk_plain.proofs.RowWrites.{InOrder, latest, row_after_writes, writes_keep_length, writes_keep_order, same_tables}
 
-abbrev Noted : Type 0
+abbrev pub Noted : Type 0
 Noted = List (Place × Option RowOf)
 
-place_cmp_total : IsTotalOrder place_cmp
+pub place_cmp_total : IsTotalOrder place_cmp
 place_cmp_total = then_total (on_total (λ (p : Place). p.0) nat_cmp_total) (on_total (λ (p : Place). p.1) value_cmp_total)
 
 nat_ties : (a b : ℕ) (t : Bool) → (a == b) ≡ t → t ≡ is_eq (nat_cmp a b)
@@ -40,7 +40,7 @@ both : (a b : Bool) → T a → T b → T (a && b)
 both true b p q = q
 both false b p q = p
 
-parts : (a b : Bool) → T (a && b) → T a × T b
+pub parts : (a b : Bool) → T (a && b) → T a × T b
 parts true b h = (tt, h)
 parts false b h = absurd h
 
@@ -49,7 +49,7 @@ not_tied Less h = refl
 not_tied Equal h = absurd h
 not_tied Greater h = refl
 
-tied : (r : Ordering) → is_eq r ≡ true → r ≡ Equal
+pub tied : (r : Ordering) → is_eq r ≡ true → r ≡ Equal
 tied Less e = absurd cc
 tied Equal e = refl
 tied Greater e = absurd cc
@@ -61,7 +61,7 @@ below_tied x y (e ∷ es) p h =
     both (is_lt (place_cmp x e.0)) (below_all place_cmp x es) (subst (λ r. T (is_lt r)) (sym (place_cmp_total.congr x y e.0 p)) hs.0) (below_tied x y es p hs.1)
 
 -- what was noted of a row, or what it had
-abbrev or_had : Option (Option RowOf) → Option RowOf → Option RowOf
+abbrev pub or_had : Option (Option RowOf) → Option RowOf → Option RowOf
 or_had None o = o
 or_had (Some r) o = r
 
@@ -76,7 +76,7 @@ none_later t q (e ∷ es) o h =
     let miss : hits t q (write_of e) ≡ false = sym (ties t q (write_of e)) ∙ not_tied (place_cmp (t, q) e.0) hs.0 in
     ap (λ b. latest t q (map write_of es) (cond b e.1 o)) miss ∙ none_later t q es o hs.1
 
-latest_is_found : (t : ℕ) (q : Value) (es : Noted) (o : Option RowOf) → T (is_sorted place_cmp es) → latest t q (map write_of es) o ≡ or_had (find place_cmp (t, q) es) o
+pub latest_is_found : (t : ℕ) (q : Value) (es : Noted) (o : Option RowOf) → T (is_sorted place_cmp es) → latest t q (map write_of es) o ≡ or_had (find place_cmp (t, q) es) o
 latest_is_found t q [] o h = refl
 latest_is_found t q (e ∷ es) o h = by (latest_is_found t q es o (parts (below_all place_cmp e.0 es) (is_sorted place_cmp es) h).1) (eq_by_cmp place_cmp (t, q) e.0) refl
   where
@@ -90,14 +90,14 @@ latest_is_found t q (e ∷ es) o h = by (latest_is_found t q es o (parts (below_
         ∙ rest
         ∙ sym (ap (λ b. or_had (cond b (Some e.1) (find place_cmp (t, q) es)) o) is)
 
-noted_is_latest : (ws : List Write) (es : Noted) (t : ℕ) (q : Value) (o : Option RowOf) → or_had (find place_cmp (t, q) (fold noted es ws)) o ≡ latest t q ws (or_had (find place_cmp (t, q) es) o)
+pub noted_is_latest : (ws : List Write) (es : Noted) (t : ℕ) (q : Value) (o : Option RowOf) → or_had (find place_cmp (t, q) (fold noted es ws)) o ≡ latest t q ws (or_had (find place_cmp (t, q) es) o)
 noted_is_latest [] es t q o = refl
 noted_is_latest (w ∷ ws) es t q o =
     noted_is_latest ws (noted es w) t q o
     ∙ ap (λ f. latest t q ws (or_had f o)) (find-put place_cmp place_cmp_total (t, q) (w.table, w.key) w.row es ∙ ap (λ b. cond b (Some w.row) (find place_cmp (t, q) es)) (ties t q w))
     ∙ ap (latest t q ws) (or_cond (hits t q w) w.row (find place_cmp (t, q) es) o)
 
-noted_sorted : (ws : List Write) (es : Noted) → T (is_sorted place_cmp es) → T (is_sorted place_cmp (fold noted es ws))
+pub noted_sorted : (ws : List Write) (es : Noted) → T (is_sorted place_cmp es) → T (is_sorted place_cmp (fold noted es ws))
 noted_sorted [] es h = h
 noted_sorted (w ∷ ws) es h = noted_sorted ws (noted es w) (is_sorted-put place_cmp place_cmp_total (w.table, w.key) w.row es h)
 

@@ -23,14 +23,14 @@ use Rattle.sk_plain.proofs.Settled.{Settled, Holds, place_of}
 use Rattle.sk_plain.proofs.Endings.{gives_up, commits}
 use Rattle.sk_plain.proofs.Answering.{hears, hears_refusal, answers, selects, covered_now, starts, covered_alone}
 
-abbrev UnderBy : List Table → Tables → List Commit → Option Live → Type 0
+abbrev pub UnderBy : List Table → Tables → List Commit → Option Live → Type 0
 UnderBy catalog tables order None = Unit {0}
 UnderBy catalog tables order (Some live) = Underway catalog tables order live
 
 -- what holds between two statements
-record Stands (catalog : List Table) (st : Standing) : Type 0 where
-  settled : Settled catalog st.tables st.order st.records
-  live : UnderBy catalog st.tables st.order st.live
+pub record Stands (catalog : List Table) (st : Standing) : Type 0 where
+  pub settled : Settled catalog st.tables st.order st.records
+  pub live : UnderBy catalog st.tables st.order st.live
 
 module _ (catalog : List Table) (st : Standing) (settled : Settled catalog st.tables st.order st.records) where
   with_stands : (live : Live) → Underway catalog st.tables st.order live → Stands catalog (with_live st live)
@@ -102,7 +102,7 @@ module _ (catalog : List Table) (st : Standing) (settled : Settled catalog st.ta
   inside_says live under (statement.Update table sets e) = inside_stands (statement.Update table sets e) live under (named catalog (statement.Update table sets e)) (λ db. refl)
   inside_says live under (statement.Delete table e) = inside_stands (statement.Delete table e) live under (named catalog (statement.Delete table e)) (λ db. refl)
 
-  says_by_stands : Stands catalog st → (s : Statement) (o : Option Live) → UnderBy catalog st.tables st.order o → Stands catalog (says_by catalog st o s).0
+  pub says_by_stands : Stands catalog st → (s : Statement) (o : Option Live) → UnderBy catalog st.tables st.order o → Stands catalog (says_by catalog st o s).0
   says_by_stands stands s None under = outside_says stands s
   says_by_stands stands s (Some live) under = inside_says live under s
 
@@ -118,7 +118,7 @@ no_rows : (catalog : List Table) → InOrder (opening_of catalog)
 no_rows [] = tt
 no_rows (t ∷ catalog) = (tt, no_rows catalog)
 
-starts_settled : (catalog : List Table) → Settled catalog (opening_of catalog) [] []
+pub starts_settled : (catalog : List Table) → Settled catalog (opening_of catalog) [] []
 starts_settled catalog = record { is = refl; in_order = no_rows catalog; numbered = tt; labels = tt; each = tt; listed = refl; fresh = tt }
 
 end_settled : (catalog : List Table) (ss : List Statement) → Settled catalog (end_of catalog ss).tables (end_of catalog ss).order (end_of catalog ss).records
