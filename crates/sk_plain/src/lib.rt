@@ -14,3 +14,4 @@ mod session;
 mod turn;
 
 pub use played::Played;
+pub use playing::{StatementList, play};

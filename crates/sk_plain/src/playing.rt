@@ -79,3 +79,60 @@ fn last(alloc: Global, desk: Desk, live: Option<Live>) -> Result<Desk, NoMemory>
         Some(live) => give_up(alloc, desk, live),
     }
 }
+
+/// Plays the statements to their end.
+fn play_to_end(
+    alloc: Global,
+    catalog: &Catalog,
+    statements: Vec<Statement>,
+) -> Result<(Desk, ReplyList), NoMemory>
+    ensures desk { IfOk result (λ r. r.0 ≡ spec.last (spec.turns catalog.now (spec.kept_nothing catalog.now) None statements.items).0 (spec.turns catalog.now (spec.kept_nothing catalog.now) None statements.items).1) }
+    ensures replies { IfOk result (λ r. r.1 ≡ spec.turn_replies catalog.now (spec.kept_nothing catalog.now) None statements.items) }
+{
+    let desk = nothing(alloc, catalog)?;
+    let (desk, live, replies) = play_all(alloc, catalog, desk, statements)?;
+    Ok((last(alloc, desk, live)?, replies))
+}
+
+fn handed_out(desk: Desk, replies: ReplyList) -> Played
+    ensures replies { result.replies ≡ replies }
+    ensures order { result.order ≡ desk.order }
+    ensures records { result.records ≡ desk.records }
+    ensures places { result.places ≡ desk.places }
+{
+    let Desk {
+        order,
+        records,
+        places,
+        ..
+    } = desk;
+    Played {
+        replies,
+        order,
+        records,
+        places,
+    }
+}
+
+/// Plays the statements of one session over a plain list of commits, from tables without rows.
+///
+/// A transaction that is live at the end is rolled back. The labels are 1.1, 1.2 and so on: each transaction has one, and so has
+/// each statement outside of one that is not refused for its names, counts and sorts.
+///
+/// # Errors
+///
+/// `NoMemory` alone: memory was wanted for a statement, or there were more than 4,294,967,295 transactions.
+pub fn play(
+    alloc: Global,
+    catalog: &Catalog,
+    statements: StatementList,
+) -> Result<Played, NoMemory>
+    // It is what the rules say, for each reply, each record and the list of commits.
+    ensures exact { IfOk result (λ p. p ≡ played_of catalog.now statements) }
+
+    // The records are those of one database with the list of commits.
+    ensures one { IfOk result (λ p. OneDatabase catalog.now (opening_of catalog.now) p.order p.places p.records) }
+{
+    let (desk, replies) = play_to_end(alloc, catalog, statements.into_vec())?;
+    Ok(handed_out(desk, replies))
+}
