@@ -109,7 +109,7 @@ module _ (left left_now written written_now : Option (List ℕ)) (reads reads_no
   handed_out script records order prefixes = rw (records, order, prefixes) (one_database (tables_in script) (statements_in script))
 
   pub finished_ran : (shown : Shown) → IsFinished shown outcome written written_now writes writes_now → Found left left_now (Ok shown) → Ran true left left_now written written_now reads reads_now writes writes_now outcome
-  finished_ran shown finished (script, (reads_script, is)) =
+  finished_ran shown finished (script, reads_script, is) =
       let records : outcome.records ≡ (run_of script).records = finished.records ∙ ap (λ (p : Played). p.records) is.0 in
       let order : outcome.order ≡ (run_of script).order = finished.order ∙ ap (λ (p : Played). p.order) is.0 in
       let prefixes : outcome.prefixes ≡ (run_of script).places = finished.prefixes ∙ ap (λ (p : Played). p.places) is.0 in

@@ -7,5 +7,3 @@ mod stop;
 
 pub use running::run_script;
 
-#[cfg(test)]
-mod tests;
