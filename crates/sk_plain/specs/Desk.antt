@@ -1,7 +1,6 @@
 -- What a run keeps between two statements. Beside the live transaction, whose writes stand in the tables already, it keeps what
 -- its rows were before.
-use Rattle.std.specs.Prelude.{ℕ, ◌+◌, List, [], Option, Some, None}
-use Rattle.sk_rows.specs.declared.table.Table.{Table}
+use Rattle.std.specs.Prelude.{ℕ, List, Option}
 use Rattle.sk_model.specs.declared.commit.Commit.{Commit}
 use Rattle.sk_model.specs.declared.record.Said.{Said}
 use Rattle.sk_model.specs.declared.record.Record.{Record}

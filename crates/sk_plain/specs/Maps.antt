@@ -2,7 +2,7 @@
 use Rattle.std.specs.Prelude.{List, map}
 use Rattle.std.specs.BTreeMap.{BTreeMap}
 use Rattle.sk_rows.specs.declared.value.Value.{Value}
-use Rattle.sk_model.specs.Database.{RowOf, KeyedRows, Tables}
+use Rattle.sk_model.specs.Database.{RowOf, Tables}
 
 -- the entries of the maps, one map a table
 abbrev pub shown : List (BTreeMap Value RowOf) → Tables

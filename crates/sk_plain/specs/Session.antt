@@ -13,7 +13,7 @@ use Rattle.sk_model.specs.declared.record.TxKind.TheVariants as kind
 use Rattle.sk_model.specs.Database.{Tables, table_of}
 use Rattle.sk_model.specs.Names.{table_at, columns_at}
 use Rattle.sk_model.specs.Reads.{rows_read}
-use Rattle.sk_model.specs.Replies.{Answer, comes_to, key_read, refusal_in, table_said}
+use Rattle.sk_model.specs.Replies.{Answer, comes_to, key_read, refusal_in}
 use Rattle.sk_weave.specs.Weave.{place}
 use Rattle.sk_plain.specs.declared.played.Played.{Played}
 use Rattle.sk_plain.specs.Standing.{Live, Standing, nothing_yet, is_stored, next_label, kind_of, started, may_use, selected, heard, answered, with_live, committed, given_up}
@@ -43,8 +43,8 @@ inside_at catalog st live s t None =
     let stored = is_stored catalog t in
     let answer = answer_at catalog live.tables s t in
     cond (may_use live.kind stored)
-      (with_live st (answered (selected stored st.order live) s answer), answer.0)
-      (told st live s (reply.Refused err.Engine))
+    (with_live st (answered (selected stored st.order live) s answer), answer.0)
+    (told st live s (reply.Refused err.Engine))
 
 -- inside a transaction
 abbrev pub inside : List Table → Standing → Live → Statement → Option ℕ → Turn

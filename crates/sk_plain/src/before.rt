@@ -93,11 +93,7 @@ pub(crate) fn write_all(
     Ok(())
 }
 
-fn write_of(
-    alloc: Global,
-    tables: &[RowMap],
-    place: &(u16, Value),
-) -> Result<Write, NoMemory>
+fn write_of(alloc: Global, tables: &[RowMap], place: &(u16, Value)) -> Result<Write, NoMemory>
     ensures { IfOk result (λ write. write ≡ write_at (shown tables.now) place.now) }
 {
     Ok(Write {

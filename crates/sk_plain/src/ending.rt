@@ -89,7 +89,11 @@ fn wrote_other(catalog: &Catalog, writes: &[Write]) -> bool
 fn drawn(wrote: bool, count: u32) -> Result<Option<u32>, NoMemory>
     ensures { IfOk result (λ n. n ≡ drawn_of wrote count) }
 {
-    if wrote { Ok(Some(next(count)?)) } else { Ok(None) }
+    if wrote {
+        Ok(Some(next(count)?))
+    } else {
+        Ok(None)
+    }
 }
 
 fn after_draw(number: Option<u32>, len: u32, numbers: Numbers) -> Numbers

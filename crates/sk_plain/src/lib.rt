@@ -15,3 +15,6 @@ mod turn;
 
 pub use played::Played;
 pub use playing::{StatementList, play};
+
+#[cfg(test)]
+mod tests;

@@ -122,11 +122,7 @@ fn handed_out(desk: Desk, replies: ReplyList) -> Played
 /// # Errors
 ///
 /// `NoMemory` alone: memory was wanted for a statement, or there were more than 4,294,967,295 transactions.
-pub fn play(
-    alloc: Global,
-    catalog: &Catalog,
-    statements: StatementList,
-) -> Result<Played, NoMemory>
+pub fn play(alloc: Global, catalog: &Catalog, statements: StatementList) -> Result<Played, NoMemory>
     // It is what the rules say, for each reply, each record and the list of commits.
     ensures exact { IfOk result (λ p. p ≡ played_of catalog.now statements) }
 

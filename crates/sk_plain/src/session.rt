@@ -252,12 +252,7 @@ fn says_outside(
     }
 }
 
-fn commits(
-    alloc: Global,
-    catalog: &Catalog,
-    desk: Desk,
-    live: Live,
-) -> Result<Turn, NoMemory>
+fn commits(alloc: Global, catalog: &Catalog, desk: Desk, live: Live) -> Result<Turn, NoMemory>
     ensures { IfOk result (λ t. t ≡ spec.commits catalog.now desk live) }
 {
     let live = hear(alloc, live, Statement::Commit, &Reply::Committed)?;

@@ -1,4 +1,4 @@
-use Rattle.std.proofs.Common.{rules, sym, ◌∙◌}
+use Rattle.std.proofs.Common.{rules, ◌∙◌}
 use Rattle.sk_plain.proofs.Named.{some_named}
 use Rattle.sk_plain.proofs.asking.number_of.Goals as goal
 
