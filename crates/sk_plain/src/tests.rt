@@ -11,8 +11,9 @@ fn one_transaction(rt: HostRuntime) -> Result<(), Fail> {
     statements.push(Statement::Begin(Begun::Cross))?;
     statements.push(Statement::Rollback)?;
     statements.push(Statement::Commit)?;
-    let Ok(played) = play(alloc, &Catalog::new(alloc), statements) else {
-        Err("no memory")?
+    let played = match play(alloc, &Catalog::new(alloc), statements) {
+        Ok(played) => played,
+        Err(_) => Err("no memory")?,
     };
     let replies = played.replies.as_slice();
     assert!(rt; replies.len() == 3);
