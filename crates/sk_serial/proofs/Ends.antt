@@ -1,12 +1,11 @@
 -- What a run answers, from how it ended.
-use Rattle.std.proofs.Common.{◌≡◌, ℕ, List, true, false, Ok, Err, IsErrOf, Option, refl, sym, ap, subst, ◌∙◌, ⊎_elim}
+use Rattle.std.proofs.Common.{◌≡◌, ℕ, List, true, false, Ok, Err, IsErrOf, Option, refl, ap, subst, ◌∙◌, ⊎_elim}
 use Rattle.std.specs.Io.KnownBytes.{Appends}
 use Rattle.std.specs.String.{string_bytes}
 use Rattle.sk_outside.specs.Causes.{Rose}
 use Rattle.sk_outside.specs.Pieces.{AppendsFront}
 use Rattle.sk_model.specs.declared.outcome.Outcome.{Outcome}
 use Rattle.sk_model.specs.Records.{OneDatabase}
-use Rattle.sk_rows.specs.declared.table.Table.{Table}
 use Rattle.sk_plain.specs.Standing.{opening_of}
 use Rattle.sk_plain.specs.declared.played.Played.{Played}
 use Rattle.sk_plain.proofs.Promise.{one_database}
@@ -15,8 +14,8 @@ use Rattle.sk_script.specs.Text.{script_fault_text}
 use Rattle.sk_serial.specs.declared.playing.Shown.{Shown}
 use Rattle.sk_serial.specs.declared.stop.Stop.{Stop}
 use Rattle.sk_serial.specs.declared.stop.Stop.TheVariants as stop
-use Rattle.sk_serial.specs.Played.{run_of, statements_in, tables_in, text_of}
-use Rattle.sk_serial.specs.Running.{Ran, IsPrinted, IsStopped, IsNothing, IsFinished, IsShown, HasRun, Departs, Found, usage_text, read_text, memory_text}
+use Rattle.sk_serial.specs.Played.{run_of, statements_in, tables_in}
+use Rattle.sk_serial.specs.Running.{Ran, IsPrinted, IsStopped, IsNothing, IsFinished, HasRun, Departs, Found, usage_text, read_text, memory_text}
 
 module _ (left left_now written written_now : Option (List ℕ)) (reads reads_now writes writes_now : ℕ) (outcome : Outcome) where
   pub usage_ran : IsPrinted 2 usage_text outcome.status written written_now writes writes_now → IsNothing outcome → Ran false left left_now written written_now reads reads_now writes writes_now outcome

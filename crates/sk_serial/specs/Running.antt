@@ -9,7 +9,6 @@ use Rattle.sk_model.specs.declared.outcome.Outcome.{Outcome}
 use Rattle.sk_model.specs.Records.{OneDatabase}
 use Rattle.sk_plain.specs.Standing.{opening_of}
 use Rattle.sk_script.specs.declared.script.Script.{Script}
-use Rattle.sk_script.specs.declared.script.ScriptFault.{ScriptFault}
 use Rattle.sk_script.specs.declared.script.ScriptFault.TheVariants as fault
 use Rattle.sk_script.specs.Script.{script_of}
 use Rattle.sk_script.specs.Text.{script_fault_text}

@@ -7,3 +7,5 @@ mod stop;
 
 pub use running::run_script;
 
+#[cfg(test)]
+mod tests;
