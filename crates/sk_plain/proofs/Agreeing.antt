@@ -14,6 +14,10 @@ pub record Agree (usable : ℕ → Bool) (a b : Tables) : Type 0 where
   pub len : length a ≡ length b
   pub at : (t : ℕ) → usable t ≡ true → table_of a t ≡ table_of b t
 
+-- the writes are to usable tables
+abbrev pub AllOf : (ℕ → Bool) → List Write → Type 0
+AllOf usable ws = AllByRecursion (λ w. usable w.table ≡ true) ws
+
 -- the commit wrote no usable table
 abbrev pub Unused : (ℕ → Bool) → Commit → Type 0
 Unused usable c = AllByRecursion (λ w. usable w.table ≡ false) c.writes

@@ -1,8 +1,7 @@
 -- A transaction ends: its record holds of the list with what it committed, and the old records still do.
 use Rattle.std.specs.Prelude.{◌≡◌, ℕ, ◌+◌, ◌-◌, ◌≤◌, Bool, true, false, List, [], ◌∷◌, ◌++◌, length, map, take, drop, Option, Some, None, IfSome}
-use Rattle.std.proofs.Common.{refl, sym, ap, subst, ◌∙◌, arith}
-use Rattle.std.specs.List.{AllByRecursion}
-use Rattle.std.proofs.lemmas.Bool.{and_from, eq-eqb}
+use Rattle.std.proofs.Common.{sym, ap, subst, ◌∙◌, arith}
+use Rattle.std.specs.List.{flat_map, AllByRecursion}
 use Rattle.std.proofs.lemmas.List.{length-append, length-drop, take_all}
 use Rattle.std.proofs.lemmas.List.Sums.{fold-append}
 use Rattle.sk_rows.specs.declared.table.Table.{Table}
@@ -14,9 +13,10 @@ use Rattle.sk_model.specs.declared.record.Ending.{Ending}
 use Rattle.sk_model.specs.Database.{Tables, state, after_commit, net}
 use Rattle.sk_model.specs.Records.{Told, written, clashes, FirstWins, AtMost, IsLater, Follows, Fresh, same_label, own_place, all_commits, commits_of, committed_as}
 use Rattle.sk_weave.specs.Weave.{place}
+use Rattle.sk_model.proofs.Labels.{same_itself}
+use Rattle.sk_model.proofs.Lookups.{Sorted, sorted_after_writes, state_is}
 use Rattle.sk_model.proofs.Lists.{each_append, each_both, each_weaker}
 use Rattle.sk_plain.specs.Standing.{Live, opening_of, mem_count, store_count, record_of}
-use Rattle.sk_plain.proofs.RowWrites.{InOrder, writes_keep_order}
 use Rattle.sk_plain.proofs.Agreeing.{Agree, Unused, prefix_agrees}
 use Rattle.sk_plain.proofs.Telling.{told_moves, written_moves}
 use Rattle.sk_plain.proofs.Underway.{Underway, is_covered}
@@ -36,9 +36,8 @@ later : (o d m : Option ℕ) (n : ℕ) → AtMost o n → AtMost d n → IfSome 
 later o d None n p q is = tt
 later o d (Some k) n p q is = (subst (AtMost o) (sym is) p, subst (AtMost d) (sym is) q)
 
-commits_keep_order : (cs : List Commit) (db : Tables) → InOrder db → InOrder (state db cs)
-commits_keep_order [] db h = h
-commits_keep_order (c ∷ cs) db h = commits_keep_order cs (after_commit db c) (writes_keep_order c.writes db h)
+commits_keep_order : (cs : List Commit) (db : Tables) → Sorted db → Sorted (state db cs)
+commits_keep_order cs db h = subst Sorted (sym (state_is db cs)) (sorted_after_writes db (flat_map (λ c. c.writes) cs) h)
 
 fresh_more : (records : List Record) (r : Record) → Fresh records → AllByRecursion (λ x. Follows x r × Follows r x) records → Follows r r → Fresh (records ++ r ∷ [])
 fresh_more records r fresh both itself =
@@ -53,7 +52,7 @@ wins_at_end : (order cs : List Commit) (p : ℕ) (label : Label) (ws : List Writ
 wins_at_end order [] p label ws l others labels apart =
     subst (λ (o : Option ℕ). IfSome o (λ q. (p ≤ q) × FirstWins (order ++ []) p q ws)) (sym (own_place_grows order [] label tt ∙ own_place_none order label others)) tt
 wins_at_end order (c ∷ cs) p label ws l others labels apart =
-    let own : same_label c.label label ≡ true = subst (λ x. same_label x label ≡ true) (sym labels.0) (and_from _ _ (eq-eqb label.session label.session refl) (eq-eqb label.k label.k refl)) in
+    let own : same_label c.label label ≡ true = subst (λ x. same_label x label ≡ true) (sym labels.0) (same_itself label) in
     let all : take (length order - p) (drop p order) ≡ drop p order = take_all (length order - p) (drop p order) (omega (arith, length-drop p order)) in
     let whole : FirstWins order p (length order) ws = subst (λ xs. AllByRecursion (λ c. clashes ws c ≡ false) xs) (sym all) apart in
     subst (λ (o : Option ℕ). IfSome o (λ q. (p ≤ q) × FirstWins (order ++ c ∷ cs) p q ws)) (sym (own_place_new order cs c label others own))
@@ -137,7 +136,7 @@ module _ (catalog : List Table) (tables : Tables) (order : List Commit) (records
     pub closes : (after : Tables) → after ≡ state tables cs → Settled catalog after (order ++ cs) (records ++ r ∷ [])
     closes after e = record {
       is = e ∙ ap (λ db. state db cs) settled.is ∙ sym (fold-append after_commit (opening_of catalog) order cs);
-      in_order = subst InOrder (sym e) (commits_keep_order cs tables settled.in_order);
+      in_order = subst Sorted (sym e) (commits_keep_order cs tables settled.in_order);
       numbered = each_append (Numbered catalog (mem_count (order ++ cs)) (store_count (order ++ cs))) order cs
           (each_weaker (Numbered catalog (mem_count order) (store_count order)) (Numbered catalog (mem_count (order ++ cs)) (store_count (order ++ cs))) (numbered_still catalog order cs (next records) adds) order settled.numbered)
           adds.numbered;

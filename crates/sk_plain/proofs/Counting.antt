@@ -2,6 +2,7 @@
 use Rattle.std.specs.Prelude.{◌≡◌, ℕ, ◌+◌, Bool, true, false, cond, List, [], ◌∷◌, ◌++◌, length, Option, Some, None, is_some}
 use Rattle.std.proofs.Common.{refl, sym, ap, ◌∙◌, arith}
 use Rattle.std.specs.List.{filter}
+use Rattle.std.proofs.Math.Bool.{or-false}
 use Rattle.std.proofs.lemmas.Bool.{le-leb}
 use Rattle.std.proofs.lemmas.List.{length-append}
 use Rattle.std.proofs.lemmas.List.Elements.{filter-append}
@@ -12,7 +13,6 @@ use Rattle.sk_plain.specs.Desk.{Drawn}
 use Rattle.sk_plain.specs.Playing.{after_draw}
 use Rattle.sk_plain.specs.Standing.{drawn, mem_count, store_count}
 use Rattle.sk_plain.proofs.Apart.{mem_numbers, store_numbers}
-use Rattle.sk_plain.proofs.Growing.{or_false}
 
 -- of one engine: a commit's number there, and the snapshots of both where this one's holds the first n
 module _ (number : Commit → Option ℕ) (m s : ℕ → Option ℕ) (only : (n : ℕ) (c : Commit) → is_wanted (m n) (s n) c ≡ upto (Some n) (number c)) where
@@ -40,7 +40,7 @@ module _ (number : Commit → Option ℕ) (m s : ℕ → Option ℕ) (only : (n 
       λ i. record { count = sym same i; prefix = (sym there ∙ ap (λ k. place (order ++ c ∷ []) (m k) (s k)) (sym same)) i }
 
 pub mem_after : (b : Bool) (order : List Commit) (c : Commit) → c.mem ≡ drawn b (mem_count order) → after_draw (drawn b (mem_count order)) (length order + 1) (mem_numbers order) ≡ mem_numbers (order ++ c ∷ [])
-mem_after b order c is = after (λ c. c.mem) (λ n. Some n) (λ n. None) (λ n c. or_false (upto (Some n) c.mem)) b order c is
+mem_after b order c is = after (λ c. c.mem) (λ n. Some n) (λ n. None) (λ n c. or-false (upto (Some n) c.mem)) b order c is
 
 pub store_after : (b : Bool) (order : List Commit) (c : Commit) → c.store ≡ drawn b (store_count order) → after_draw (drawn b (store_count order)) (length order + 1) (store_numbers order) ≡ store_numbers (order ++ c ∷ [])
 store_after b order c is = after (λ c. c.store) (λ n. None) (λ n. Some n) (λ n c. refl) b order c is

@@ -14,8 +14,11 @@ use Rattle.sk_model.specs.Database.{Tables, state, after_writes, net}
 use Rattle.sk_model.specs.Records.{AtMost, some_writes, committed_as}
 use Rattle.sk_weave.specs.Weave.{upto, is_wanted}
 use Rattle.sk_model.proofs.Lists.{each_both, each_weaker}
+use Rattle.sk_model.proofs.Nets.{each_net}
 use Rattle.sk_plain.specs.Standing.{Live, is_stored, mem_count, store_count, wrote, drawn, record_of}
-use Rattle.sk_plain.proofs.NetWrites.{AllOf, net_leaves, net_of, some_net}
+use Rattle.sk_plain.proofs.Agreeing.{AllOf}
+use Rattle.sk_plain.proofs.Drawing.{some_net}
+use Rattle.sk_plain.proofs.NetWrites.{net_leaves}
 use Rattle.sk_plain.proofs.Underway.{Underway, is_covered}
 use Rattle.sk_plain.proofs.Settled.{Settled, Adds, mem_count_append, store_count_append}
 use Rattle.sk_plain.proofs.Closing.{next, closes}
@@ -115,7 +118,7 @@ module _ (catalog : List Table) (tables : Tables) (order : List Commit) (records
           record {
             mem = drew_mem (wrote catalog false live.writes) order c refl;
             store = drew_store (wrote catalog true live.writes) order c refl;
-            writes = subst (AllOf (is_covered catalog mem store)) is (net_of (is_covered catalog mem store) live.writes (all_drawn catalog (mem_count order) (store_count order) live.writes));
+            writes = subst (AllOf (is_covered catalog mem store)) is (each_net (λ w. is_covered catalog mem store w.table ≡ true) live.writes (all_drawn catalog (mem_count order) (store_count order) live.writes));
           },
           tt,
         );

@@ -3,7 +3,7 @@ use Rattle.std.specs.Prelude.{◌≡◌, List, [], ◌∷◌, Some, Bool, true, 
 use Rattle.std.proofs.Common.{refl, sym, ap, ◌∙◌}
 use Rattle.std.specs.declared.cmp.Ordering.{Ordering}
 use Rattle.std.specs.declared.cmp.Ordering.TheVariants.{Less, Equal, Greater}
-use Rattle.std.specs.Cmp.{IsTotalOrder}
+use Rattle.std.specs.Cmp.{IsTotalOrder, Equal-is}
 use Rattle.std.specs.Ordering.{is_eq, eq_by_cmp, match_ordering}
 use Rattle.std.specs.List.{AllByRecursion}
 use Rattle.std.specs.List.Sorted.{IsStrictlySortedBy}
@@ -16,11 +16,6 @@ ordered_is : {A : Type 0} (o : Ordering) (a b c d : A) → c ≡ d → match_ord
 ordered_is Less a b c d e = refl
 ordered_is Equal a b c d e = refl
 ordered_is Greater a b c d e = e
-
-tied : (o : Ordering) → is_eq o ≡ true → o ≡ Equal
-tied Less e = absurd cc
-tied Equal e = refl
-tied Greater e = absurd cc
 
 module _ {K X : Type 0} (R : K → K → Ordering) where
   pub find_is : (k : K) (es : List (K × X)) → lookup (is_at (R k)) es ≡ find R k es
@@ -41,7 +36,7 @@ module _ {K X : Type 0} (R : K → K → Ordering) where
   removed_by : IsTotalOrder R → (k : K) (e : K × X) (es : List (K × X)) (b : Bool) → is_eq (R k e.0) ≡ b → AllByRecursion (λ y. R e.0 y ≡ Less) (keys_of es)
       → remove_entry (is_at (R k)) es ≡ where_key R (λ x. not (eq_by_cmp R k x)) es
       → cond b es (e ∷ remove_entry (is_at (R k)) es) ≡ cond (not b) (e ∷ where_key R (λ x. not (eq_by_cmp R k x)) es) (where_key R (λ x. not (eq_by_cmp R k x)) es)
-  removed_by total k e es true is less rest = sym (none_tied total k e.0 (tied (R k e.0) is) es less)
+  removed_by total k e es true is less rest = sym (none_tied total k e.0 ((Equal-is (R k e.0)).0 is) es less)
   removed_by total k e es false is less rest = ap (λ fs. e ∷ fs) rest
 
   -- of entries in order the first that ties is the only one

@@ -3,18 +3,16 @@ use Rattle.std.specs.Prelude.{◌≡◌, ℕ, suc, ◌+◌, ◌-◌, ◌<◌, �
 use Rattle.std.proofs.Common.{refl, sym, ap, subst, ◌∙◌, arith}
 use Rattle.std.specs.List.{list_any, position_or_len, AllByRecursion}
 use Rattle.std.specs.Option.{option_map}
+use Rattle.std.proofs.Math.Bool.{or-false}
 use Rattle.std.proofs.lemmas.Bool.{lt-ltb, le-ltb, ltb-true, ltb-false}
-use Rattle.std.proofs.lemmas.List.{take-append-le, drop-append-le, length-drop}
+use Rattle.std.proofs.lemmas.List.{take-append-le, drop-append-le, length-append, length-drop}
 use Rattle.std.proofs.lemmas.List.Folds.{list_any-append}
 use Rattle.sk_model.specs.declared.label.Label.{Label}
 use Rattle.sk_model.specs.declared.commit.Write.{Write}
 use Rattle.sk_model.specs.declared.commit.Commit.{Commit}
 use Rattle.sk_model.specs.Records.{clashes, FirstWins, same_label, own_place}
 use Rattle.sk_weave.specs.Weave.{is_wanted, place}
-
-pub or_false : (b : Bool) → (b || false) ≡ b
-or_false true = refl
-or_false false = refl
+use Rattle.sk_weave.proofs.Alone.{Ends, ends}
 
 pub place_none : (cs : List Commit) (m s : Option ℕ) → list_any (is_wanted m s) cs ≡ false → place cs m s ≡ 0
 place_none [] m s e = refl
@@ -25,16 +23,11 @@ pub place_grows : (order cs : List Commit) (m s : Option ℕ) → list_any (is_w
 place_grows [] cs m s e = place_none cs m s e
 place_grows (c ∷ order) cs m s e =
     let any : list_any (is_wanted m s) (c ∷ order ++ cs) ≡ list_any (is_wanted m s) (c ∷ order) =
-    list_any-append (is_wanted m s) (c ∷ order) cs ∙ ap (λ b. list_any (is_wanted m s) (c ∷ order) || b) e ∙ or_false (list_any (is_wanted m s) (c ∷ order)) in
+    list_any-append (is_wanted m s) (c ∷ order) cs ∙ ap (λ b. list_any (is_wanted m s) (c ∷ order) || b) e ∙ or-false (list_any (is_wanted m s) (c ∷ order)) in
     ap (λ b. cond b (place (order ++ cs) m s + 1) 0) any ∙ ap (λ n. cond (list_any (is_wanted m s) (c ∷ order)) (n + 1) 0) (place_grows order cs m s e)
 
 pub place_within : (order : List Commit) (m s : Option ℕ) → place order m s ≤ length order
-place_within [] m s = omega arith
-place_within (c ∷ order) m s = by (place_within order m s) (list_any (is_wanted m s) (c ∷ order))
-  where
-    by : place order m s ≤ length order → (b : Bool) → cond b (place order m s + 1) 0 ≤ suc (length order)
-    by l true = omega arith
-    by l false = omega arith
+place_within order m s = let e : Ends m s order = ends m s order in omega (arith, e.place_is, ap length e.is ∙ length-append e.held e.rest)
 
 -- so is the prefix that it gives
 pub seen_grows : (order cs : List Commit) (m s : Option ℕ) → list_any (is_wanted m s) cs ≡ false → take (place (order ++ cs) m s) (order ++ cs) ≡ take (place order m s) order

@@ -19,11 +19,10 @@ use Rattle.sk_plain.specs.Standing.{Live, Standing, mem_count, store_count, draw
 use Rattle.sk_plain.proofs.Apart.{mem_numbers, store_numbers, place_seen}
 use Rattle.sk_plain.proofs.Closing.{next, at_most_snapshot}
 use Rattle.sk_plain.proofs.Counting.{mem_after, store_after}
-use Rattle.sk_plain.proofs.Drawing.{wrote_net}
+use Rattle.sk_plain.proofs.Drawing.{some_net, wrote_net}
 use Rattle.sk_plain.proofs.Endings.{not_upto, none_drawn}
 use Rattle.sk_plain.proofs.Growing.{place_grows}
 use Rattle.sk_plain.proofs.Keeping.{kept_live, desk_with, desk_at, desk_of}
-use Rattle.sk_plain.proofs.NetWrites.{some_net}
 use Rattle.sk_plain.proofs.Noting.{noted_before}
 use Rattle.sk_plain.proofs.Settled.{Settled, Holds, place_of}
 use Rattle.sk_plain.proofs.Sound.{Sound}

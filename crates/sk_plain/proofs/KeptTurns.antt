@@ -1,5 +1,5 @@
 -- Each statement makes of what a run keeps what it makes of what stands.
-use Rattle.std.specs.Prelude.{◌≡◌, ℕ, ◌<◌, Bool, true, false, cond, List, [], ◌∷◌, length, Option, Some, None}
+use Rattle.std.specs.Prelude.{◌≡◌, ℕ, ◌<◌, Bool, true, false, cond, List, [], length, Option, Some, None}
 use Rattle.std.proofs.Common.{refl, sym, ap, subst, ◌∙◌, arith}
 use Rattle.std.proofs.lemmas.List.{length-map}
 use Rattle.sk_rows.specs.declared.table.Table.{Table}
@@ -11,7 +11,7 @@ use Rattle.sk_model.specs.declared.reply.ErrWord.TheVariants as err
 use Rattle.sk_model.specs.declared.reply.Reply.{Reply}
 use Rattle.sk_model.specs.declared.reply.Reply.TheVariants as reply
 use Rattle.sk_model.specs.declared.record.TxKind.{TxKind}
-use Rattle.sk_model.specs.Database.{Tables, after_commit, state}
+use Rattle.sk_model.specs.Database.{Tables, state}
 use Rattle.sk_model.specs.Names.{columns_at}
 use Rattle.sk_model.specs.Replies.{Answer, refusal_in}
 use Rattle.sk_plain.specs.Desk.{Kept, KeptLive}
@@ -24,18 +24,14 @@ use Rattle.sk_plain.proofs.Keeping.{kept_live, live_kept, tables_now, desk_with,
 use Rattle.sk_plain.proofs.KeptEnds.{gives_up_is, commits_is}
 use Rattle.sk_plain.proofs.Named.{is_inside}
 use Rattle.sk_plain.proofs.Noting.{Inside}
-use Rattle.sk_plain.proofs.RowWrites.{writes_keep_length}
+use Rattle.sk_model.proofs.Reading.{length_state}
 use Rattle.sk_plain.proofs.Settled.{Settled}
 use Rattle.sk_plain.proofs.Sound.{Sound, sound_started, sound_heard, sound_answered}
 use Rattle.sk_plain.proofs.KeptInside.{SoundBy, Same, start_is, answer_inside, with_writes_is, hear_is, told_is, kept_is, inside_is}
 
-commits_keep_length : (cs : List Commit) (db : Tables) → length (state db cs) ≡ length db
-commits_keep_length [] db = refl
-commits_keep_length (c ∷ cs) db = commits_keep_length cs (after_commit db c) ∙ writes_keep_length c.writes db
-
 -- there is one table for each of the catalog
 as_many : (catalog : List Table) (order : List Commit) (tables : Tables) → tables ≡ state (opening_of catalog) order → length tables ≡ length catalog
-as_many catalog order tables is = ap length is ∙ commits_keep_length order (opening_of catalog) ∙ length-map catalog (λ t. [])
+as_many catalog order tables is = ap length is ∙ length_state (opening_of catalog) order ∙ length-map catalog (λ t. [])
 
 -- no transaction is live
 abbrev resting : Standing → Standing

@@ -16,7 +16,6 @@ pub mod NetWrites
 pub mod Noting
 pub mod Parts
 pub mod Promise
-pub mod RowWrites
 pub mod SameRun
 pub mod Settled
 pub mod Shown

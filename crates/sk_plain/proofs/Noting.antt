@@ -1,35 +1,26 @@
 -- What is noted before a transaction's writes: of each row that they write, what it was in the tables that they began with.
-use Rattle.std.specs.Prelude.{◌≡◌, ℕ, ◌<◌, Bool, true, false, cond, nat_lt, T, List, [], ◌∷◌, ◌++◌, length, map, Option, Some, None, is_some}
+use Rattle.std.specs.Prelude.{◌≡◌, ℕ, Bool, true, false, cond, nat_lt, ◌&&◌, T, List, [], ◌∷◌, ◌++◌, length, map, Option, Some, None, is_some}
 use Rattle.std.proofs.Common.{refl, sym, ap, ◌∙◌, append_assoc}
 use Rattle.std.specs.List.{fold}
 use Rattle.std.specs.Option.{option_map}
 use Rattle.std.specs.declared.cmp.Ordering.{Ordering}
 use Rattle.std.specs.declared.cmp.Ordering.TheVariants.{Less, Equal, Greater}
-use Rattle.std.specs.Ordering.{is_eq, is_lt, eq_by_cmp, nat_cmp, ordering_then}
-use Rattle.std.specs.FinMap.{nat_cmp-IsAntisymmetric}
+use Rattle.std.specs.Ordering.{is_eq, is_lt, eq_by_cmp}
+use Rattle.std.specs.Cmp.{Equal-is}
 use Rattle.std.specs.FinMap.Entries.{find, put, by_order, is_sorted, below_all}
 use Rattle.std.proofs.lemmas.Bool.{ltb-true}
 use Rattle.std.proofs.lemmas.List.{append-nil}
 use Rattle.std.proofs.lemmas.List.Sums.{fold-append}
-use Rattle.sk_rows.specs.declared.value.Value.{Value}
-use Rattle.sk_rows.specs.Values.{value_cmp}
-use Rattle.sk_rows.specs.Orders.{value_cmp-IsAntisymmetric}
 use Rattle.sk_model.specs.declared.commit.Write.{Write}
 use Rattle.sk_model.specs.Database.{RowOf, Tables, Place, place_cmp, noted, row_of, after_write, after_writes}
 use Rattle.sk_plain.specs.Before.{PlacedRows, with_before, before_all}
-use Rattle.sk_plain.proofs.RowWrites.{row_after_writes}
-use Rattle.sk_plain.proofs.NetWrites.{Noted, AllOf, parts, tied, place_cmp_total, or_had, noted_is_latest, noted_sorted}
+use Rattle.sk_model.proofs.Nets.{place_cmp_total}
+use Rattle.sk_plain.proofs.Agreeing.{AllOf}
+use Rattle.sk_plain.proofs.NetWrites.{same_place, or_had, noted_sorted, row_after}
 
-both_tie : (a b : Ordering) → ordering_then a b ≡ Equal → (a ≡ Equal) × (b ≡ Equal)
-both_tie Less b e = absurd cc
-both_tie Equal b e = (refl, e)
-both_tie Greater b e = absurd cc
-
--- places that tie are equal
-pub same_place : (x y : Place) → place_cmp x y ≡ Equal → x ≡ y
-same_place x y e =
-    let ties : (nat_cmp x.0 y.0 ≡ Equal) × (value_cmp x.1 y.1 ≡ Equal) = both_tie (nat_cmp x.0 y.0) (value_cmp x.1 y.1) e in
-    λ i. (nat_cmp-IsAntisymmetric x.0 y.0 ties.0 i, value_cmp-IsAntisymmetric x.1 y.1 ties.1 i)
+pub parts : (a b : Bool) → T (a && b) → T a × T b
+parts true b h = (tt, h)
+parts false b h = absurd h
 
 pub lesser : (r : Ordering) → T (is_lt r) → r ≡ Less
 lesser Less h = refl
@@ -37,7 +28,7 @@ lesser Equal h = absurd h
 lesser Greater h = absurd h
 
 -- a place below all is not found
-none_found : (p x : Place) (es : Noted) → place_cmp p x ≡ Less → T (below_all place_cmp x es) → find place_cmp p es ≡ None
+none_found : (p x : Place) (es : PlacedRows) → place_cmp p x ≡ Less → T (below_all place_cmp x es) → find place_cmp p es ≡ None
 none_found p x [] less h = refl
 none_found p x (e ∷ es) less h =
     let hs : T (is_lt (place_cmp x e.0)) × T (below_all place_cmp x es) = parts (is_lt (place_cmp x e.0)) (below_all place_cmp x es) h in
@@ -56,21 +47,17 @@ noted_before base ws = map (as_was base) (fold noted [] ws)
 abbrev pub Inside : ℕ → List Write → Type 0
 Inside n ws = AllOf (λ t. nat_lt t n) ws
 
--- a row after these writes is what they gave it last, or what it was
-pub row_after : (base : Tables) (ws : List Write) (t : ℕ) (q : Value) → t < length base → row_of (after_writes base ws) t q ≡ or_had (find place_cmp (t, q) (fold noted [] ws)) (row_of base t q)
-row_after base ws t q l = row_after_writes ws base t q l ∙ sym (noted_is_latest ws [] t q (row_of base t q))
-
 module _ (base : Tables) (p : Place) where
-  pub find_as_was : (es : Noted) → find place_cmp p (map (as_was base) es) ≡ option_map (λ r. row_of base p.0 p.1) (find place_cmp p es)
+  find_as_was : (es : PlacedRows) → find place_cmp p (map (as_was base) es) ≡ option_map (λ r. row_of base p.0 p.1) (find place_cmp p es)
   find_as_was [] = refl
   find_as_was (e ∷ es) = by (find_as_was es) (eq_by_cmp place_cmp p e.0) refl
     where
       by : find place_cmp p (map (as_was base) es) ≡ option_map (λ r. row_of base p.0 p.1) (find place_cmp p es) → (b : Bool) → eq_by_cmp place_cmp p e.0 ≡ b
           → cond b (Some (row_of base e.0.0 e.0.1)) (find place_cmp p (map (as_was base) es)) ≡ option_map (λ r. row_of base p.0 p.1) (cond b (Some e.1) (find place_cmp p es))
-      by rest true is = ap (λ (x : Place). Some (row_of base x.0 x.1)) (sym (same_place p e.0 (tied (place_cmp p e.0) is)))
+      by rest true is = ap (λ (x : Place). Some (row_of base x.0 x.1)) (sym (same_place p e.0 ((Equal-is (place_cmp p e.0)).0 is)))
       by rest false is = rest
 
-  put_as_was : (r : Option RowOf) (es : Noted) → put place_cmp p (row_of base p.0 p.1) (map (as_was base) es) ≡ map (as_was base) (put place_cmp p r es)
+  put_as_was : (r : Option RowOf) (es : PlacedRows) → put place_cmp p (row_of base p.0 p.1) (map (as_was base) es) ≡ map (as_was base) (put place_cmp p r es)
   put_as_was r [] = refl
   put_as_was r (e ∷ es) = by (put_as_was r es) (place_cmp p e.0) refl
     where
@@ -81,7 +68,7 @@ module _ (base : Tables) (p : Place) where
       by rest Equal is = ap (λ (x : Place). (e.0, row_of base x.0 x.1) ∷ map (as_was base) es) (same_place p e.0 is)
       by rest Greater is = ap (λ xs. as_was base e ∷ xs) rest
 
-  put_found : (r x : Option RowOf) (es : Noted) → T (is_sorted place_cmp es) → find place_cmp p es ≡ Some x → map (as_was base) (put place_cmp p r es) ≡ map (as_was base) es
+  put_found : (r x : Option RowOf) (es : PlacedRows) → T (is_sorted place_cmp es) → find place_cmp p es ≡ Some x → map (as_was base) (put place_cmp p r es) ≡ map (as_was base) es
   put_found r x [] sorted is = absurd cc
   put_found r x (e ∷ es) sorted is = by (put_found r x es hs.1) (place_cmp p e.0) refl is
     where
@@ -95,7 +82,7 @@ module _ (base : Tables) (p : Place) where
       by rest Greater is found = ap (λ xs. as_was base e ∷ xs) (rest found)
 
   -- one more row is noted, which is as it was unless it was noted before
-  with_before_is : (tables : Tables) (r : Option RowOf) (es : Noted) → T (is_sorted place_cmp es) → (find place_cmp p es ≡ None → row_of tables p.0 p.1 ≡ row_of base p.0 p.1)
+  with_before_is : (tables : Tables) (r : Option RowOf) (es : PlacedRows) → T (is_sorted place_cmp es) → (find place_cmp p es ≡ None → row_of tables p.0 p.1 ≡ row_of base p.0 p.1)
       → with_before tables (map (as_was base) es) p ≡ map (as_was base) (put place_cmp p r es)
   with_before_is tables r es sorted rest =
       ap (λ (f : Option (Option RowOf)). cond (is_some f) (map (as_was base) es) (put place_cmp p (row_of tables p.0 p.1) (map (as_was base) es))) (find_as_was es) ∙ by (find place_cmp p es) refl

@@ -1,5 +1,5 @@
 -- The run of one session is a run of one database.
-use Rattle.std.specs.Prelude.{◌≡◌, ℕ, List, [], ◌∷◌, length, map, Option, Some, None}
+use Rattle.std.specs.Prelude.{◌≡◌, ℕ, zero, suc, List, [], ◌∷◌, length, map, Option, Some, None}
 use Rattle.std.proofs.Common.{refl, ap, ◌∙◌}
 use Rattle.std.specs.List.{AllByRecursion}
 use Rattle.std.proofs.lemmas.Bool.{cond_both}
@@ -17,7 +17,7 @@ use Rattle.sk_model.specs.Replies.{Answer, refusal_in, answer_in, answer_on, ans
 use Rattle.sk_model.specs.Records.{Explained, WinsFirst, EachAt, OneDatabase}
 use Rattle.sk_plain.specs.Standing.{Live, Standing, opening_of, nothing_yet, is_stored, next_label, kind_of, started, may_use, selected, heard, answered, with_live, committed, given_up}
 use Rattle.sk_plain.specs.Session.{Turn, answer_at, inside_at, inside, is_refused, engine_kind, outside_at, outside, named, says_outside, says_inside, says_by, says, behind, ended_by, end_of, played_of}
-use Rattle.sk_plain.proofs.RowWrites.{InOrder}
+use Rattle.sk_model.proofs.Lookups.{Sorted}
 use Rattle.sk_plain.proofs.Underway.{Underway}
 use Rattle.sk_plain.proofs.Settled.{Settled, Holds, place_of}
 use Rattle.sk_plain.proofs.Endings.{gives_up, commits}
@@ -114,9 +114,10 @@ behind_stands : (catalog : List Table) (ss : List Statement) (st : Standing) →
 behind_stands catalog [] st stands = stands
 behind_stands catalog (s ∷ ss) st stands = behind_stands catalog ss (says catalog st s).0 (says_by_stands catalog st stands.settled stands s st.live stands.live)
 
-no_rows : (catalog : List Table) → InOrder (opening_of catalog)
-no_rows [] = tt
-no_rows (t ∷ catalog) = (tt, no_rows catalog)
+no_rows : (catalog : List Table) → Sorted (opening_of catalog)
+no_rows [] t = tt
+no_rows (table ∷ catalog) zero = tt
+no_rows (table ∷ catalog) (suc t) = no_rows catalog t
 
 pub starts_settled : (catalog : List Table) → Settled catalog (opening_of catalog) [] []
 starts_settled catalog = record { is = refl; in_order = no_rows catalog; numbered = tt; labels = tt; each = tt; listed = refl; fresh = tt }

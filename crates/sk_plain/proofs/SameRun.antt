@@ -1,9 +1,8 @@
 -- What a run keeps comes to what one session comes to over a plain list of commits.
-use Rattle.std.specs.Prelude.{◌≡◌, List, [], ◌∷◌, map, Option, Some, None}
+use Rattle.std.specs.Prelude.{◌≡◌, List, [], ◌∷◌, Option, Some, None}
 use Rattle.std.proofs.Common.{refl, ap, ◌∙◌}
 use Rattle.sk_rows.specs.declared.table.Table.{Table}
 use Rattle.sk_rows.specs.declared.statement.Statement.{Statement}
-use Rattle.sk_weave.specs.Weave.{place}
 use Rattle.sk_plain.specs.declared.played.Played.{Played}
 use Rattle.sk_plain.specs.declared.turn.Turn.{Turn}
 use Rattle.sk_plain.specs.Desk.{Kept, KeptLive}
@@ -58,10 +57,6 @@ desk_replies catalog ss = replies_are catalog ss (nothing_yet catalog) (keeps_no
 -- what is kept at the end
 pub desk_end : (catalog : List Table) (ss : List Statement) → last (turns catalog (kept_nothing catalog) None ss).0 (turns catalog (kept_nothing catalog) None ss).1 ≡ desk_of (end_of catalog ss)
 desk_end catalog ss = ends_are catalog ss (nothing_yet catalog) (keeps_nothing catalog)
-
-pub desk_ends : (catalog : List Table) (ss : List Statement) → let t : Kept × Option KeptLive = turns catalog (kept_nothing catalog) None ss in let d : Kept = last t.0 t.1 in
-    (d.order ≡ (end_of catalog ss).order) × (d.records ≡ (end_of catalog ss).records) × (d.places ≡ map (λ r. place (end_of catalog ss).order r.mem r.store) (end_of catalog ss).records)
-desk_ends catalog ss = (ap (λ (d : Kept). d.order) (desk_end catalog ss), ap (λ (d : Kept). d.records) (desk_end catalog ss), ap (λ (d : Kept). d.places) (desk_end catalog ss))
 
 -- what a run comes to that gives the replies, and what is kept at the end
 pub played_is : (catalog : List Table) (ss : List Statement) (p : Played) (d : Kept) → p.replies ≡ turn_replies catalog (kept_nothing catalog) None ss

@@ -3,7 +3,7 @@ use Rattle.std.specs.Prelude.{◌≡◌, ℕ, ◌+◌, ◌<◌, ◌≤◌, false
 use Rattle.std.proofs.Common.{refl, sym, ap, subst, ◌∙◌, arith, append_assoc}
 use Rattle.std.specs.List.{list_any, AllByRecursion}
 use Rattle.std.proofs.lemmas.Bool.{and_right, ne_eqb}
-use Rattle.std.proofs.lemmas.List.{length-append, take-append-le, append-nil}
+use Rattle.std.proofs.lemmas.List.{length-append, append-nil}
 use Rattle.std.proofs.lemmas.List.Elements.{filter-append}
 use Rattle.sk_rows.specs.declared.table.Table.{Table}
 use Rattle.sk_model.specs.declared.label.Label.{Label}
@@ -14,10 +14,10 @@ use Rattle.sk_model.specs.Database.{Tables, state, net}
 use Rattle.sk_model.specs.Records.{Told, written, Explained, FirstWins, AtMost, WinsFirst, Fresh, same_label, own_place, all_commits, commits_of, committed_as}
 use Rattle.sk_weave.specs.Weave.{is_wanted, place}
 use Rattle.sk_model.proofs.Lists.{each_weaker}
+use Rattle.sk_model.proofs.Lookups.{Sorted}
 use Rattle.sk_plain.specs.Standing.{opening_of, mem_count, store_count}
-use Rattle.sk_plain.proofs.RowWrites.{InOrder}
 use Rattle.sk_plain.proofs.Unwanted.{Numbered}
-use Rattle.sk_plain.proofs.Growing.{place_grows, place_within, Others, own_place_grows, own_place_within, first_wins_grows}
+use Rattle.sk_plain.proofs.Growing.{place_grows, seen_grows, Others, own_place_grows, own_place_within, first_wins_grows}
 
 abbrev pub place_of : List Commit → Record → ℕ
 place_of order r = place order r.mem r.store
@@ -34,7 +34,7 @@ pub record Holds (catalog : List Table) (opening : Tables) (order : List Commit)
 
 pub record Settled (catalog : List Table) (tables : Tables) (order : List Commit) (records : List Record) : Type 0 where
   pub is : tables ≡ state (opening_of catalog) order
-  pub in_order : InOrder tables
+  pub in_order : Sorted tables
   pub numbered : AllByRecursion (Numbered catalog (mem_count order) (store_count order)) order
   pub labels : AllByRecursion (λ c. c.label.k ≤ length records) order
   pub each : AllByRecursion (Holds catalog (opening_of catalog) order (length records)) records
@@ -88,7 +88,7 @@ module _ (catalog : List Table) (order cs : List Commit) (label : Label) (adds :
     place_stays = place_grows order cs r.mem r.store (adds.unwanted r.mem r.store mem store)
 
     pub prefix_stays : take (place_of (order ++ cs) r) (order ++ cs) ≡ take (place_of order r) order
-    prefix_stays = ap (λ p. take p (order ++ cs)) place_stays ∙ take-append-le (place_of order r) order cs (place_within order r.mem r.store)
+    prefix_stays = seen_grows order cs r.mem r.store (adds.unwanted r.mem r.store mem store)
 
     pub explained_stays : Explained catalog opening order (place_of order r) r → Explained catalog opening (order ++ cs) (place_of (order ++ cs) r) r
     explained_stays h = subst (λ xs. Told catalog (state opening xs) r.said) (sym prefix_stays) h

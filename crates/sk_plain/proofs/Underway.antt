@@ -11,9 +11,9 @@ use Rattle.sk_model.specs.declared.record.Said.{Said}
 use Rattle.sk_model.specs.Database.{Tables, after_writes}
 use Rattle.sk_model.specs.Replies.{reply_of, is_judged}
 use Rattle.sk_model.specs.Records.{writes_said, after_said, Told, written}
-use Rattle.sk_model.proofs.Lists.{each_append}
+use Rattle.sk_model.proofs.Lists.{each_append, each_weaker}
 use Rattle.sk_plain.specs.Standing.{Live, is_stored, mem_count, store_count, may_use}
-use Rattle.sk_plain.proofs.NetWrites.{AllOf}
+use Rattle.sk_plain.proofs.Agreeing.{AllOf}
 use Rattle.sk_plain.proofs.Telling.{Apt, apt_wider, after_all, told_append, written_append, written_leaves}
 
 -- the engine of the table has its snapshot
@@ -60,12 +60,8 @@ module _ (catalog : List Table) (usable : ℕ → Bool) (db : Tables) (said : Li
     comes = runs.comes;
     leaves = runs.leaves;
     apt = apt_wider catalog usable wide more said runs.apt;
-    own = own_wider writes runs.own;
+    own = each_weaker (λ w. usable w.table ≡ true) (λ w. wide w.table ≡ true) (λ w u. more w.table u) writes runs.own;
   }
-    where
-      own_wider : (ws : List Write) → AllOf usable ws → AllOf wide ws
-      own_wider [] h = tt
-      own_wider (w ∷ ws) h = (more w.table h.0, own_wider ws h.1)
 
 -- a live transaction, where no commit came behind its beginning
 pub record Underway (catalog : List Table) (tables : Tables) (order : List Commit) (live : Live) : Type 0 where

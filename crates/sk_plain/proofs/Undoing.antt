@@ -1,80 +1,83 @@
 -- What was noted gives a transaction's tables back what they were, and tells what its writes come to.
-use Rattle.std.specs.Prelude.{◌≡◌, ℕ, ◌<◌, false, cond, nat_lt, T, ◌&&◌, List, [], ◌∷◌, length, map, Option, Some, None}
-use Rattle.std.proofs.Common.{refl, sym, ap, subst, ◌∙◌, arith}
-use Rattle.std.specs.List.{fold, AllByRecursion}
-use Rattle.std.specs.Option.{option_map}
+use Rattle.std.specs.Prelude.{◌≡◌, ℕ, ◌<◌, Bool, true, false, cond, nat_lt, T, ◌||◌, List, [], ◌∷◌, length, map, Option, Some}
+use Rattle.std.proofs.Common.{refl, sym, ap, ◌∙◌, arith}
+use Rattle.std.specs.List.{fold, list_any, AllByRecursion}
 use Rattle.std.specs.declared.cmp.Ordering.TheVariants.{Less}
 use Rattle.std.specs.Ordering.{is_eq, is_lt, ordering_reverse}
 use Rattle.std.specs.Cmp.{tied_itself}
 use Rattle.std.specs.FinMap.Entries.{find, is_sorted, below_all}
-use Rattle.std.proofs.lemmas.Bool.{ltb-true}
+use Rattle.std.proofs.lemmas.Bool.{ltb-true, or_parts}
 use Rattle.sk_rows.specs.declared.value.Value.{Value}
 use Rattle.sk_model.specs.declared.commit.Write.{Write}
-use Rattle.sk_model.specs.Database.{RowOf, Tables, Place, place_cmp, noted, net, write_of, row_of, after_writes}
-use Rattle.sk_plain.specs.Before.{writes_at}
-use Rattle.sk_plain.proofs.RowWrites.{InOrder, row_after_writes, writes_keep_length, writes_keep_order, same_tables}
-use Rattle.sk_plain.proofs.NetWrites.{Noted, parts, place_cmp_total, or_had, latest_is_found, noted_sorted, net_of}
-use Rattle.sk_plain.proofs.Noting.{Inside, as_was, noted_before, find_as_was, row_after, lesser}
+use Rattle.sk_model.specs.Database.{RowOf, Tables, Place, place_cmp, hits, noted, net, write_of, row_of, after_writes}
+use Rattle.sk_model.specs.Calls.{last_row}
+use Rattle.sk_model.proofs.Lookups.{Sorted, row_after_writes, length_after_writes, sorted_after_writes, hits_is}
+use Rattle.sk_model.proofs.Nets.{place_cmp_total, net_row, each_net}
+use Rattle.sk_plain.specs.Before.{PlacedRows, writes_at}
+use Rattle.sk_plain.proofs.NetWrites.{same_tables, or_had, noted_sorted, row_after}
+use Rattle.sk_plain.proofs.Noting.{Inside, parts, as_was, noted_before, lesser}
 
-module _ (base : Tables) where
-  below_as_was : (x : Place) (es : Noted) → below_all place_cmp x (map (as_was base) es) ≡ below_all place_cmp x es
-  below_as_was x [] = refl
-  below_as_was x (e ∷ es) = ap (λ b. is_lt (place_cmp x e.0) && b) (below_as_was x es)
+module _ (t : ℕ) (q : Value) where
+  -- some noted row is this one
+  abbrev is_noted : PlacedRows → Bool
+  is_noted es = list_any (λ e. hits t q (write_of e)) es
 
-  sorted_as_was : (es : Noted) → is_sorted place_cmp (map (as_was base) es) ≡ is_sorted place_cmp es
-  sorted_as_was [] = refl
-  sorted_as_was (e ∷ es) = λ i. below_as_was e.0 es i && sorted_as_was es i
+  -- a row that was not noted stays
+  unnoted_stays : (es : PlacedRows) (r : Option RowOf) → is_noted es ≡ false → last_row t q r (map write_of es) ≡ r
+  unnoted_stays [] r none = refl
+  unnoted_stays (e ∷ es) r none =
+      let nones : (hits t q (write_of e) ≡ false) × (is_noted es ≡ false) = or_parts (hits t q (write_of e)) (is_noted es) none in
+      ap (λ b. last_row t q (cond b e.1 r) (map write_of es)) nones.0 ∙ unnoted_stays es r nones.1
 
--- a row that was found is as it was, and any other is what it was
-back : (f : Option (Option RowOf)) (o : Option RowOf) → or_had (option_map (λ (r : Option RowOf). o) f) (or_had f o) ≡ o
-back None o = refl
-back (Some r) o = refl
+  -- noted rows as they were give this row back, where it has not changed unless it was noted
+  given_back : (base : Tables) (es : PlacedRows) (r : Option RowOf) → (is_noted es ≡ false → r ≡ row_of base t q) → last_row t q r (map write_of (map (as_was base) es)) ≡ row_of base t q
+  given_back base [] r is = is refl
+  given_back base (e ∷ es) r is = by (given_back base es) (hits t q (write_of e)) refl is
+    where
+      by : ((r : Option RowOf) → (is_noted es ≡ false → r ≡ row_of base t q) → last_row t q r (map write_of (map (as_was base) es)) ≡ row_of base t q)
+          → (b : Bool) → hits t q (write_of e) ≡ b → ((b || is_noted es) ≡ false → r ≡ row_of base t q) → last_row t q (cond b (row_of base e.0.0 e.0.1) r) (map write_of (map (as_was base) es)) ≡ row_of base t q
+      by rest true hit is =
+          let same : (t ≡ e.0.0) × (q ≡ e.0.1) = hits_is t q (write_of e) hit in
+          rest (row_of base e.0.0 e.0.1) (λ none. λ i. row_of base (sym same.0 i) (sym same.1 i))
+      by rest false miss is = rest r is
 
--- the noted rows are given back
-pub undone : (base : Tables) (ws : List Write) → InOrder base → after_writes (after_writes base ws) (map write_of (noted_before base ws)) ≡ base
+-- the noted rows, as writes that give them back
+abbrev backward : Tables → List Write → List Write
+backward base ws = map write_of (noted_before base ws)
+
+pub undone : (base : Tables) (ws : List Write) → Sorted base → after_writes (after_writes base ws) (backward base ws) ≡ base
 undone base ws h =
-    same_tables (after_writes (after_writes base ws) (map write_of (noted_before base ws))) base len (writes_keep_order (map write_of (noted_before base ws)) (after_writes base ws) (writes_keep_order ws base h)) h rows
-  where
-    same : length (after_writes base ws) ≡ length base
-    same = writes_keep_length ws base
-
-    len : length (after_writes (after_writes base ws) (map write_of (noted_before base ws))) ≡ length base
-    len = writes_keep_length (map write_of (noted_before base ws)) (after_writes base ws) ∙ same
-
-    sorted : T (is_sorted place_cmp (noted_before base ws))
-    sorted = subst (λ b. T b) (sym (sorted_as_was base (fold noted [] ws))) (noted_sorted ws [] tt)
-
-    rows : (t : ℕ) (q : Value) → t < length (after_writes (after_writes base ws) (map write_of (noted_before base ws))) → row_of (after_writes (after_writes base ws) (map write_of (noted_before base ws))) t q ≡ row_of base t q
-    rows t q l =
-        let there : t < length base = omega (arith, len) in
-        let here : t < length (after_writes base ws) = omega (arith, same) in
-        row_after_writes (map write_of (noted_before base ws)) (after_writes base ws) t q here
-        ∙ latest_is_found t q (noted_before base ws) (row_of (after_writes base ws) t q) sorted
-        ∙ (λ i. or_had (find_as_was base (t, q) (fold noted [] ws) i) (row_after base ws t q there i))
-        ∙ back (find place_cmp (t, q) (fold noted [] ws)) (row_of base t q)
+    let db : Tables = after_writes base ws in
+    let same : length db ≡ length base = length_after_writes base ws in
+    let len : length (after_writes db (backward base ws)) ≡ length db = length_after_writes db (backward base ws) in
+    same_tables (after_writes db (backward base ws)) base (len ∙ same) (sorted_after_writes db (backward base ws) (sorted_after_writes base ws h)) h (λ t q l.
+    let there : t < length base = omega (arith, len, same) in
+    row_after_writes db (backward base ws) t q (omega (arith, len))
+    ∙ given_back t q base (fold noted [] ws) (row_of db t q)
+    (λ none. row_after_writes base ws t q there ∙ sym (net_row t q (row_of base t q) ws) ∙ unnoted_stays t q (fold noted [] ws) (row_of base t q) none))
 
 -- a place above is not tied
 above : (x y : Place) → place_cmp x y ≡ Less → is_eq (place_cmp y x) ≡ false
 above x y less = ap is_eq (place_cmp_total.antisymm y x ∙ ap ordering_reverse less)
 
 -- each of these entries is found in a list
-abbrev FoundIn : Noted → Noted → Type 0
+abbrev FoundIn : PlacedRows → PlacedRows → Type 0
 FoundIn all es = AllByRecursion (λ (e : Place × Option RowOf). find place_cmp e.0 all ≡ Some e.1) es
 
-found_behind : (e : Place × Option RowOf) (all es : Noted) → T (below_all place_cmp e.0 es) → FoundIn all es → FoundIn (e ∷ all) es
+found_behind : (e : Place × Option RowOf) (all es : PlacedRows) → T (below_all place_cmp e.0 es) → FoundIn all es → FoundIn (e ∷ all) es
 found_behind e all [] h found = tt
 found_behind e all (f ∷ es) h found =
     let hs : T (is_lt (place_cmp e.0 f.0)) × T (below_all place_cmp e.0 es) = parts (is_lt (place_cmp e.0 f.0)) (below_all place_cmp e.0 es) h in
     (ap (λ b. cond b (Some e.1) (find place_cmp f.0 all)) (above e.0 f.0 (lesser (place_cmp e.0 f.0) hs.0)) ∙ found.0, found_behind e all es hs.1 found.1)
 
-found_each : (es : Noted) → T (is_sorted place_cmp es) → FoundIn es es
+found_each : (es : PlacedRows) → T (is_sorted place_cmp es) → FoundIn es es
 found_each [] h = tt
 found_each (e ∷ es) h =
     let hs : T (below_all place_cmp e.0 es) × T (is_sorted place_cmp es) = parts (below_all place_cmp e.0 es) (is_sorted place_cmp es) h in
     (ap (λ o. cond (is_eq o) (Some e.1) (find place_cmp e.0 es)) (tied_itself place_cmp_total e.0), found_behind e es es hs.0 (found_each es hs.1))
 
 -- what the tables have of noted rows is what was noted
-written_at : (base : Tables) (ws : List Write) (es : Noted) → FoundIn (fold noted [] ws) es → Inside (length base) (map write_of es) → writes_at (after_writes base ws) (map (as_was base) es) ≡ map write_of es
+written_at : (base : Tables) (ws : List Write) (es : PlacedRows) → FoundIn (fold noted [] ws) es → Inside (length base) (map write_of es) → writes_at (after_writes base ws) (map (as_was base) es) ≡ map write_of es
 written_at base ws [] found inside = refl
 written_at base ws (e ∷ es) found inside =
     let there : e.0.0 < length base = ltb-true e.0.0 (length base) inside.0 in
@@ -84,4 +87,4 @@ written_at base ws (e ∷ es) found inside =
 -- what the noted rows are behind the writes is what the writes come to
 pub written_is_net : (base : Tables) (ws : List Write) → Inside (length base) ws → writes_at (after_writes base ws) (noted_before base ws) ≡ net ws
 written_is_net base ws h =
-    written_at base ws (fold noted [] ws) (found_each (fold noted [] ws) (noted_sorted ws [] tt)) (net_of (λ t. nat_lt t (length base)) ws h)
+    written_at base ws (fold noted [] ws) (found_each (fold noted [] ws) (noted_sorted ws [] tt)) (each_net (λ w. nat_lt w.table (length base) ≡ true) ws h)

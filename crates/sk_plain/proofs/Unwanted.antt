@@ -1,18 +1,19 @@
 -- Behind the place of snapshots that hold all of their engines' commits, no commit wrote a table of these engines.
-use Rattle.std.specs.Prelude.{◌≡◌, ℕ, zero, suc, ◌+◌, Bool, true, false, cond, ◌||◌, ◌==◌, List, [], ◌∷◌, drop, Option, Some, None, is_some, IfSome}
-use Rattle.std.proofs.Common.{refl, sym, ap, ◌∙◌, arith, add-one}
+use Rattle.std.specs.Prelude.{◌≡◌, ℕ, Bool, true, false, cond, ◌||◌, ◌==◌, List, [], ◌∷◌, length, drop, Option, Some, None, is_some, IfSome}
+use Rattle.std.proofs.Common.{refl, sym, ap, subst, ◌∙◌, arith}
 use Rattle.std.specs.List.{list_any, AllByRecursion}
 use Rattle.std.proofs.lemmas.Bool.{leb-false, or_parts, and_left, ne_eqb, both_ways, or_from}
+use Rattle.std.proofs.lemmas.List.{drop_at}
 use Rattle.sk_rows.specs.declared.table.Table.{Table}
 use Rattle.sk_model.specs.declared.commit.Write.{Write}
 use Rattle.sk_model.specs.declared.commit.Commit.{Commit}
 use Rattle.sk_model.specs.Database.{hits}
 use Rattle.sk_model.specs.Records.{AtMost, clashes}
 use Rattle.sk_weave.specs.Weave.{upto, is_wanted, place}
-use Rattle.sk_model.proofs.Lists.{each_both, each_weaker}
+use Rattle.sk_model.proofs.Lists.{each_both, each_end, each_weaker}
+use Rattle.sk_weave.proofs.Alone.{Ends, ends}
 use Rattle.sk_plain.specs.Standing.{is_stored}
-use Rattle.sk_plain.proofs.NetWrites.{AllOf}
-use Rattle.sk_plain.proofs.Agreeing.{Unused}
+use Rattle.sk_plain.proofs.Agreeing.{AllOf, Unused}
 use Rattle.sk_plain.proofs.Underway.{is_covered}
 
 -- the commit has no number past these, and one of each engine whose tables it wrote
@@ -21,31 +22,10 @@ pub record Numbered (catalog : List Table) (mems stores : ℕ) (c : Commit) : Ty
   pub store : AtMost c.store stores
   pub writes : AllOf (is_covered catalog c.mem c.store) c.writes
 
--- what no element passes fails at each
-pub none_passes : {X : Type 0} (test : X → Bool) (xs : List X) → list_any test xs ≡ false → AllByRecursion (λ x. test x ≡ false) xs
-none_passes test [] e = tt
-none_passes test (x ∷ xs) e =
-    let es : (test x ≡ false) × (list_any test xs ≡ false) = or_parts (test x) (list_any test xs) e in
-    (es.0, none_passes test xs es.1)
-
-pub passes_none : {X : Type 0} (test : X → Bool) (xs : List X) → AllByRecursion (λ x. test x ≡ false) xs → list_any test xs ≡ false
+-- where each element fails, none passes
+passes_none : {X : Type 0} (test : X → Bool) (xs : List X) → AllByRecursion (λ x. test x ≡ false) xs → list_any test xs ≡ false
 passes_none test [] h = refl
 passes_none test (x ∷ xs) h = or_from (test x) (list_any test xs) h.0 (passes_none test xs h.1)
-
-pub each_drop : {X : Type 0} (P : X → Type 0) (n : ℕ) (xs : List X) → AllByRecursion P xs → AllByRecursion P (drop n xs)
-each_drop P zero xs h = h
-each_drop P (suc n) [] h = tt
-each_drop P (suc n) (x ∷ xs) h = each_drop P n xs h.1
-
--- behind the place nothing is wanted
-pub unwanted_behind : (order : List Commit) (m s : Option ℕ) → AllByRecursion (λ c. is_wanted m s c ≡ false) (drop (place order m s) order)
-unwanted_behind [] m s = tt
-unwanted_behind (c ∷ cs) m s = by (unwanted_behind cs m s) (list_any (is_wanted m s) (c ∷ cs)) refl
-  where
-    by : AllByRecursion (λ c. is_wanted m s c ≡ false) (drop (place cs m s) cs) → (b : Bool) → list_any (is_wanted m s) (c ∷ cs) ≡ b
-        → AllByRecursion (λ c. is_wanted m s c ≡ false) (drop (cond (list_any (is_wanted m s) (c ∷ cs)) (place cs m s + 1) 0) (c ∷ cs))
-    by rest true e = rw (e, add-one) rest
-    by rest false e = rw e (none_passes (is_wanted m s) (c ∷ cs) e)
 
 one_engine : (m o : Option ℕ) (n : ℕ) → IfSome m (λ k. k ≡ n) → AtMost o n → upto m o ≡ false → is_some o ≡ true → is_some m ≡ false
 one_engine None o n is most e some = refl
@@ -69,8 +49,13 @@ module _ (catalog : List Table) (mems stores : ℕ) (m s : Option ℕ) (is_mem :
       (λ w some. unused_table c w.table (is_stored catalog w.table) h.mem h.store e refl some) c.writes h.writes
 
   pub unused_behind : (order : List Commit) → AllByRecursion (Numbered catalog mems stores) order → AllByRecursion (Unused (is_covered catalog m s)) (drop (place order m s) order)
-  unused_behind order h = each_weaker (λ c. Numbered catalog mems stores c × (is_wanted m s c ≡ false)) (Unused (is_covered catalog m s)) (λ c both. unused_commit c both.0 both.1) (drop (place order m s) order)
-      (each_both (Numbered catalog mems stores) (λ c. is_wanted m s c ≡ false) (drop (place order m s) order) (each_drop (Numbered catalog mems stores) (place order m s) order h) (unwanted_behind order m s))
+  unused_behind order h =
+      let e : Ends m s order = ends m s order in
+      let rest : drop (place order m s) order ≡ e.rest = ap (λ n. drop n order) e.place_is ∙ ap (drop (length e.held)) e.is ∙ drop_at e.held e.rest (length e.held) refl in
+      let numbered : AllByRecursion (Numbered catalog mems stores) e.rest = each_end (Numbered catalog mems stores) e.held e.rest (subst (AllByRecursion (Numbered catalog mems stores)) e.is h) in
+      subst (AllByRecursion (Unused (is_covered catalog m s))) (sym rest)
+      (each_weaker (λ c. Numbered catalog mems stores c × (is_wanted m s c ≡ false)) (Unused (is_covered catalog m s)) (λ c both. unused_commit c both.0 both.1) e.rest
+      (each_both (Numbered catalog mems stores) (λ c. is_wanted m s c ≡ false) e.rest numbered e.none))
 
 module _ (usable : ℕ → Bool) where
   miss : (v w : Write) → usable v.table ≡ true → usable w.table ≡ false → hits v.table v.key w ≡ false
