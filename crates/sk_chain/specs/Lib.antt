@@ -1,0 +1,5 @@
+pub mod Chained
+pub mod Reading
+pub mod Writing
+pub mod Changing
+pub mod Promise
