@@ -1,11 +1,11 @@
 -- What each call makes of the versions of one row.
-use Rattle.std.specs.Prelude.{ℕ, List, ◌++◌, Option, Some, None, Bool, true, false, ◌&&◌, drop}
+use Rattle.std.specs.Prelude.{ℕ, List, [], ◌∷◌, ◌++◌, Option, Some, None, Bool, true, false, cond, ◌&&◌, drop}
 use Rattle.sk_model.specs.declared.label.Label.{Label}
 use Rattle.sk_model.specs.Database.{RowOf}
 use Rattle.sk_model.specs.Records.{same_label}
 use Rattle.sk_chain.specs.declared.version.VersionState.{VersionState}
 use Rattle.sk_chain.specs.declared.version.VersionState.TheVariants.{Open, Closed, Stamped}
-use Rattle.sk_chain.specs.Chained.{Chained, Version, listed}
+use Rattle.sk_chain.specs.Chained.{Chained, Version}
 use Rattle.sk_chain.specs.Reading.{newest}
 
 abbrev pub is_open : VersionState → Bool
@@ -27,17 +27,37 @@ pushed c by row = record { settled = c.settled; top = Some (record { by = by; st
 abbrev pub with_state : VersionState → Version → Version
 with_state state v = record { by = v.by; state = state; row = v.row }
 
-abbrev pub restated : VersionState → Option Version → Option Version
-restated state None = None
-restated state (Some v) = Some (with_state state v)
+abbrev pub closed_state : ℕ → VersionState → VersionState
+closed_state floor Open = Closed floor
+closed_state floor (Closed f) = Closed f
+closed_state floor (Stamped n) = Stamped n
 
+abbrev pub closed_version : ℕ → Option Version → Option Version
+closed_version floor None = None
+closed_version floor (Some v) = Some (with_state (closed_state floor v.state) v)
+
+-- the open version is closed with the floor
 abbrev pub closed : Chained → ℕ → Chained
-closed c floor = record { settled = c.settled; top = restated (Closed floor) c.top }
+closed c floor = record { settled = c.settled; top = closed_version floor c.top }
 
--- the version goes behind the stamped ones
+abbrev pub is_closed : VersionState → Bool
+is_closed Open = false
+is_closed (Closed f) = true
+is_closed (Stamped n) = false
+
+-- behind the stamped ones, with its number
+abbrev pub behind : List Version → ℕ → Version → Chained
+behind settled n v = record { settled = settled ++ with_state (Stamped n) v ∷ []; top = None }
+
+abbrev pub stamped_on : List Version → ℕ → Option Version → Chained
+stamped_on settled n None = record { settled = settled; top = None }
+stamped_on settled n (Some v) = cond (is_closed v.state) (behind settled n v) (record { settled = settled; top = Some v })
+
+-- the closed version goes behind the stamped ones, with its number
 abbrev pub stamped : Chained → ℕ → Chained
-stamped c n = record { settled = c.settled ++ listed (restated (Stamped n) c.top); top = None }
+stamped c n = stamped_on c.settled n c.top
 
+-- the version that is open or closed goes
 abbrev pub voided : Chained → Chained
 voided c = record { settled = c.settled; top = None }
 

@@ -1,17 +1,16 @@
 //! The versions of one row: those that are stamped, and at most one that is open or closed.
 
-ghost use Rattle.std.specs.Prelude.{◌≡◌, ◌<◌, true, length, slice_get, IfSome, OnOk, OnErr};
+ghost use Rattle.std.specs.Prelude.{◌≡◌, ◌<◌, true, None, length, slice_get, IfSome, OnOk, OnErr};
 ghost use Rattle.std.specs.Option.{option_copied};
 ghost use Rattle.sk_model.specs.EngineReplies.{last_in};
-ghost use Rattle.std.specs.Prelude.{None};
 ghost use Rattle.sk_chain.specs.Chained.{empty, versions};
 ghost use Rattle.sk_chain.specs.Reading.{newest, seen_at};
 ghost use Rattle.sk_chain.specs.Writing.{past_of, conflict};
 ghost use Rattle.sk_chain.specs.Changing.{may_push, pushed, closed, stamped, voided, trimmed};
 
 use crate::version::{
-    Blocked, Seen, Version, VersionState, is_closed_below, is_upto, past_version, same_label,
-    why_of,
+    Blocked, Seen, Version, VersionState, closed_state, is_closed, is_closed_below, is_upto,
+    past_version, same_label, why_of,
 };
 use sk_model::Label;
 use sk_rows::{NoMemory, Row};
@@ -120,33 +119,31 @@ impl Chain {
         past_last(snapshot, self.settled.as_slice())
     }
 
-    /// Closes the open version with this floor.
+    /// Closes the open version with this floor. Where none is open, nothing changes.
     pub fn close(&mut self, floor: u32)
         ensures { self.new ≡ closed self.old floor }
     {
-        if let Some(Version { by, row, .. }) = self.top.take() {
-            self.top = Some(Version {
-                by,
-                state: VersionState::Closed { floor },
-                row,
-            });
+        if let Some(Version { by, state, row }) = self.top.take() {
+            let state = closed_state(floor, state);
+            self.top = Some(Version { by, state, row });
         }
     }
 
-    /// Stamps the closed version with its number. It takes no memory.
+    /// Stamps the closed version with its number. Where none is closed, nothing changes. It takes no memory.
     pub fn stamp(&mut self, n: u32)
         ensures { self.new ≡ stamped self.old n }
     {
-        if let Some(Version { by, row, .. }) = self.top.take() {
-            self.settled.push_reserved(Version {
-                by,
-                state: VersionState::Stamped { n },
-                row,
-            });
+        if let Some(Version { by, state, row }) = self.top.take() {
+            if is_closed(state) {
+                let state = VersionState::Stamped { n };
+                self.settled.push_reserved(Version { by, state, row });
+            } else {
+                self.top = Some(Version { by, state, row });
+            }
         }
     }
 
-    /// Drops the version that is open or closed.
+    /// Drops the version that is open or closed. Where there is none, nothing changes.
     pub fn void(&mut self)
         ensures { self.new ≡ voided self.old }
     {

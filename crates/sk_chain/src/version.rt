@@ -4,6 +4,7 @@ ghost use Rattle.std.specs.Prelude.{◌≡◌};
 ghost use Rattle.sk_model.specs.Records.{same_label};
 ghost use Rattle.sk_chain.specs.Reading.{is_upto, is_closed_below};
 ghost use Rattle.sk_chain.specs.Writing.{why_of, past_version};
+ghost use Rattle.sk_chain.specs.Changing.{is_closed, closed_state};
 
 use sk_model::{Label, Why};
 use sk_rows::Row;
@@ -96,5 +97,22 @@ pub(crate) fn past_version(snapshot: u32, version: &Version) -> Option<Blocked>
             },
         }),
         _ => None,
+    }
+}
+
+/// Whether the version is closed.
+pub(crate) fn is_closed(state: VersionState) -> bool
+    ensures { result ≡ is_closed state }
+{
+    matches!(state, VersionState::Closed { .. })
+}
+
+/// How a version stands after a close.
+pub(crate) fn closed_state(floor: u32, state: VersionState) -> VersionState
+    ensures { result ≡ closed_state floor state }
+{
+    match state {
+        VersionState::Open => VersionState::Closed { floor },
+        other => other,
     }
 }
