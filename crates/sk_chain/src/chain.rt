@@ -3,7 +3,7 @@
 ghost use Rattle.std.specs.Prelude.{◌≡◌, ◌<◌, true, None, length, slice_get, IfSome, OnOk, OnErr};
 ghost use Rattle.std.specs.Option.{option_copied};
 ghost use Rattle.sk_model.specs.EngineReplies.{last_in};
-ghost use Rattle.sk_chain.specs.Chained.{empty, versions};
+ghost use Rattle.sk_chain.specs.Chained.{empty, versions, IsChain};
 ghost use Rattle.sk_chain.specs.Reading.{newest, seen_at};
 ghost use Rattle.sk_chain.specs.Writing.{past_of, conflict};
 ghost use Rattle.sk_chain.specs.Changing.{may_push, pushed, closed, stamped, voided, trimmed};
@@ -31,13 +31,12 @@ impl Model for Chain {
 
     ghost Value = { Chained };
 
-    ghost use Rattle.std.specs.Prelude.{◌<◌, ◌≤◌, ◌+◌, ◌^◌, length};
     ghost use Rattle.std.specs.Vec.{vec_capacity};
-    ghost use Rattle.sk_chain.specs.Chained.{how_many};
+    ghost use Rattle.sk_chain.specs.Chained.{IsHeld};
 
     ghost view = { λ c. record { settled = c.settled.items; top = c.top } };
 
-    ghost invariant = { λ c. (length c.settled.items + how_many c.top ≤ vec_capacity c.settled) × (length c.settled.items + how_many c.top < 2 ^ 32) };
+    ghost invariant = { λ c. IsHeld (vec_capacity c.settled) (record { settled = c.settled.items; top = c.top }) };
 }
 
 impl Chain {
@@ -91,7 +90,8 @@ impl Chain {
 
     /// The version at a place, counted from 0, the oldest one that stands.
     pub fn version(&self, at: u32) -> Option<&Version>
-        ensures { option_copied result ≡ slice_get (versions self.now) at }
+        ensures value { option_copied result ≡ slice_get (versions self.now) at }
+        ensures chain { IsChain self.now }
     {
         let at = at as usize;
         if at < self.settled.len() {
