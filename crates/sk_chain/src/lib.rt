@@ -8,3 +8,6 @@ mod version;
 pub use chain::Chain;
 pub use engine::Engine;
 pub use version::{Blocked, Seen, Version, VersionState};
+
+#[cfg(test)]
+mod tests;
