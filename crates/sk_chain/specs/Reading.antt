@@ -1,12 +1,12 @@
 -- Which version of a row a reader sees.
-use Rattle.std.specs.Prelude.{ℕ, suc, List, [], ◌∷◌, Option, Some, None, Bool, false, cond, length, nat_lt, nat_le}
+use Rattle.std.specs.Prelude.{ℕ, suc, List, [], ◌∷◌, Option, Some, None, Bool, false, cond, length, slice_get, nat_lt, nat_le}
 use Rattle.sk_model.specs.declared.label.Label.{Label}
 use Rattle.sk_model.specs.Records.{same_label}
 use Rattle.sk_chain.specs.declared.version.VersionState.{VersionState}
 use Rattle.sk_chain.specs.declared.version.VersionState.TheVariants.{Open, Closed, Stamped}
 use Rattle.sk_chain.specs.declared.version.Seen.{Seen}
 use Rattle.sk_chain.specs.declared.version.Seen.TheVariants.{At, Nothing, Busy}
-use Rattle.sk_chain.specs.Chained.{Chained, Version}
+use Rattle.sk_chain.specs.Chained.{Chained, Version, versions}
 
 -- stamped with a number up to s
 abbrev pub is_upto : ℕ → VersionState → Bool
@@ -41,3 +41,16 @@ over by s n (Some v) seen = cond (same_label by v.by) (At n) (cond (is_closed_be
 
 abbrev pub seen_at : Chained → Label → ℕ → Seen
 seen_at c by s = over by s (length c.settled) c.top (seen_place (newest s c.settled))
+
+-- what a reader finds: a version or none, or whom it waits for
+pub data Sight : Type 0 where
+  Sees : (version : Option Version) → Sight
+  Waits : (by : Label) → Sight
+
+abbrev pub sight_in : List Version → Seen → Sight
+sight_in vs (At at) = Sees (slice_get vs at)
+sight_in vs Nothing = Sees None
+sight_in vs (Busy by) = Waits by
+
+abbrev pub sight : Chained → Label → ℕ → Sight
+sight c by s = sight_in (versions c) (seen_at c by s)

@@ -1,10 +1,11 @@
 //! The versions of one row: those that are stamped, and at most one that is open or closed.
 
-ghost use Rattle.std.specs.Prelude.{◌≡◌, ◌<◌, true, None, length, slice_get, IfSome, OnOk, OnErr};
+ghost use Rattle.std.specs.Prelude.{◌≡◌, ℕ, ◌<◌, ◌≤◌, true, None, length, slice_get, IfSome, OnOk, OnErr};
 ghost use Rattle.std.specs.Option.{option_copied};
+ghost use Rattle.sk_model.specs.declared.label.Label.{Label};
 ghost use Rattle.sk_model.specs.EngineReplies.{last_in};
 ghost use Rattle.sk_chain.specs.Chained.{empty, versions, IsChain};
-ghost use Rattle.sk_chain.specs.Reading.{newest, seen_at};
+ghost use Rattle.sk_chain.specs.Reading.{newest, seen_at, sight};
 ghost use Rattle.sk_chain.specs.Writing.{past_of, conflict};
 ghost use Rattle.sk_chain.specs.Changing.{may_push, pushed, closed, stamped, voided, trimmed};
 
@@ -150,8 +151,16 @@ impl Chain {
         self.top = None;
     }
 
-    /// Drops each version that is older than the newest one stamped with a number of at most `upto`: no reader at a snapshot from `upto` on sees it.
+    /// Drops each version that is older than the newest one stamped with a number of at most `upto`. Readers at snapshots from `upto` on, and writers, find what they found.
     pub fn trim(&mut self, upto: u32)
+        ensures value { self.new ≡ trimmed self.old upto }
+        ensures reads { (by : Label) (s : ℕ) → upto ≤ s → sight self.new by s ≡ sight self.old by s }
+        ensures writes { (by : Label) (s : ℕ) → conflict self.new by s ≡ conflict self.old by s }
+    {
+        self.drop_older(upto);
+    }
+
+    fn drop_older(&mut self, upto: u32)
         ensures { self.new ≡ trimmed self.old upto }
     {
         if let Some(at) = newest_upto(upto, self.settled.as_slice()) {
