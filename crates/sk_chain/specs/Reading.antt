@@ -1,7 +1,9 @@
 -- Which version of a row a reader sees.
 use Rattle.std.specs.Prelude.{ℕ, suc, List, [], ◌∷◌, Option, Some, None, Bool, false, cond, length, slice_get, nat_lt, nat_le}
+use Rattle.std.specs.List.{filter}
 use Rattle.sk_model.specs.declared.label.Label.{Label}
 use Rattle.sk_model.specs.Records.{same_label}
+use Rattle.sk_model.specs.EngineReplies.{last_in}
 use Rattle.sk_chain.specs.declared.version.VersionState.{VersionState}
 use Rattle.sk_chain.specs.declared.version.VersionState.TheVariants.{Open, Closed, Stamped}
 use Rattle.sk_chain.specs.declared.version.Seen.{Seen}
@@ -52,5 +54,18 @@ sight_in vs (At at) = Sees (slice_get vs at)
 sight_in vs Nothing = Sees None
 sight_in vs (Busy by) = Waits by
 
+-- what the place that it sees shows it
 abbrev pub sight : Chained → Label → ℕ → Sight
 sight c by s = sight_in (versions c) (seen_at c by s)
+
+-- the last of these that is stamped with a number up to s
+abbrev pub last_upto : ℕ → List Version → Option Version
+last_upto s vs = last_in None (filter (λ v. is_upto s v.state) vs)
+
+-- its own version goes before what it finds among the stamped ones, and so does another's that it waits for
+abbrev pub found_over : Label → ℕ → Option Version → Option Version → Sight
+found_over by s None stamped = Sees stamped
+found_over by s (Some v) stamped = cond (same_label by v.by) (Sees (Some v)) (cond (is_closed_below s v.state) (Waits v.by) (Sees stamped))
+
+abbrev pub found : Chained → Label → ℕ → Sight
+found c by s = found_over by s c.top (last_upto s c.settled)

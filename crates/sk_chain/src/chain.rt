@@ -5,7 +5,7 @@ ghost use Rattle.std.specs.Option.{option_copied};
 ghost use Rattle.sk_model.specs.declared.label.Label.{Label};
 ghost use Rattle.sk_model.specs.EngineReplies.{last_in};
 ghost use Rattle.sk_chain.specs.Chained.{empty, versions, IsChain};
-ghost use Rattle.sk_chain.specs.Reading.{newest, seen_at, sight};
+ghost use Rattle.sk_chain.specs.Reading.{newest, seen_at, sight, found};
 ghost use Rattle.sk_chain.specs.Writing.{past_of, conflict};
 ghost use Rattle.sk_chain.specs.Changing.{may_push, pushed, closed, stamped, voided, trimmed};
 
@@ -72,8 +72,10 @@ impl Chain {
     }
 
     /// The place of the version that `by` sees at the snapshot: its own, or else the newest one that is stamped with a number of at most the snapshot. It has to wait for another's closed version whose floor is below the snapshot.
+    #[tactic(auto, using(crate::proofs::Finding::sight_is))]
     pub fn seen_at(&self, by: Label, snapshot: u32) -> Seen
-        ensures { result ≡ seen_at self.now by snapshot }
+        ensures value { result ≡ seen_at self.now by snapshot }
+        ensures finds { sight self.now by snapshot ≡ found self.now by snapshot }
     {
         if let Some(top) = &self.top {
             if same_label(by, top.by) {
