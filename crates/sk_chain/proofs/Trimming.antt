@@ -6,10 +6,10 @@ use Rattle.sk_model.specs.EngineReplies.{last_in}
 use Rattle.sk_chain.specs.declared.version.VersionState.{VersionState}
 use Rattle.sk_chain.specs.declared.version.VersionState.TheVariants.{Open, Closed, Stamped}
 use Rattle.sk_chain.specs.Chained.{Chained, Version}
-use Rattle.sk_chain.specs.Reading.{is_upto, later_or, newest, sight, last_upto, found_over}
+use Rattle.sk_chain.specs.Reading.{is_upto, later_or, newest, last_upto, found_over, found}
 use Rattle.sk_chain.specs.Writing.{past_of, rival_or, conflict}
 use Rattle.sk_chain.specs.Changing.{from_place, trimmed}
-use Rattle.sk_chain.proofs.Finding.{first_of, only_if, last_upto-cons, fits, sight_is}
+use Rattle.sk_chain.proofs.Finding.{first_of, only_if, last_upto-cons, fits}
 
 -- what is up to u is up to s
 upto_more : (u s : ℕ) → u ≤ s → (x : VersionState) → is_upto u x ≡ true → is_upto s x ≡ true
@@ -63,8 +63,8 @@ last_kept u (v ∷ vs) = step (newest u vs) refl (last_kept u vs)
     step (Some at) e kept = ap (λ o. last_in None (from_place o vs)) (sym e) ∙ kept ∙ last_more u v vs at e
     step None e kept = ap (last_in None) (none_gone v vs (is_upto u v.state))
 
-pub trim_reads : (c : Chained) (u : ℕ) (by : Label) (s : ℕ) → u ≤ s → sight (trimmed c u) by s ≡ sight c by s
-trim_reads c u by s l = sight_is (trimmed c u) by s ∙ ap (found_over by s c.top) (last_upto_kept u s l c.settled) ∙ sym (sight_is c by s)
+pub trim_reads : (c : Chained) (u : ℕ) (by : Label) (s : ℕ) → u ≤ s → found (trimmed c u) by s ≡ found c by s
+trim_reads c u by s l = ap (found_over by s c.top) (last_upto_kept u s l c.settled)
 
 pub trim_writes : (c : Chained) (u : ℕ) (by : Label) (s : ℕ) → conflict (trimmed c u) by s ≡ conflict c by s
 trim_writes c u by s = ap (λ v. rival_or by c.top (past_of s v)) (last_kept u c.settled)

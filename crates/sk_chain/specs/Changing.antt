@@ -13,13 +13,14 @@ is_open Open = true
 is_open (Closed f) = false
 is_open (Stamped n) = false
 
-abbrev pub is_own_open : Label → Option Version → Bool
-is_own_open by None = true
-is_own_open by (Some v) = same_label by v.by && is_open v.state
+-- nothing stands there but an open version of by
+abbrev pub is_free_for : Label → Option Version → Bool
+is_free_for by None = true
+is_free_for by (Some v) = same_label by v.by && is_open v.state
 
--- no version is closed, or open for another
+-- no version is closed, and none is open for another
 abbrev pub may_push : Chained → Label → Bool
-may_push c by = is_own_open by c.top
+may_push c by = is_free_for by c.top
 
 abbrev pub pushed : Chained → Label → Option RowOf → Chained
 pushed c by row = record { settled = c.settled; top = Some (record { by = by; state = Open; row = row }) }

@@ -8,7 +8,7 @@ use Rattle.sk_chain.specs.declared.version.VersionState.{VersionState}
 use Rattle.sk_chain.specs.declared.version.VersionState.TheVariants.{Open, Closed, Stamped}
 use Rattle.sk_chain.specs.declared.version.Seen.{Seen}
 use Rattle.sk_chain.specs.declared.version.Seen.TheVariants.{At, Nothing, Busy}
-use Rattle.sk_chain.specs.Chained.{Chained, Version, versions}
+use Rattle.sk_chain.specs.Chained.{Chained, Version}
 
 -- stamped with a number up to s
 abbrev pub is_upto : ℕ → VersionState → Bool
@@ -49,14 +49,11 @@ pub data Sight : Type 0 where
   Sees : (version : Option Version) → Sight
   Waits : (by : Label) → Sight
 
-abbrev pub sight_in : List Version → Seen → Sight
-sight_in vs (At at) = Sees (slice_get vs at)
-sight_in vs Nothing = Sees None
-sight_in vs (Busy by) = Waits by
-
--- what the place that it sees shows it
-abbrev pub sight : Chained → Label → ℕ → Sight
-sight c by s = sight_in (versions c) (seen_at c by s)
+-- what stands at the place that was answered
+abbrev pub shown : List Version → Seen → Sight
+shown vs (At at) = Sees (slice_get vs at)
+shown vs Nothing = Sees None
+shown vs (Busy by) = Waits by
 
 -- the last of these that is stamped with a number up to s
 abbrev pub last_upto : ℕ → List Version → Option Version

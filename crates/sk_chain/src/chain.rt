@@ -5,7 +5,7 @@ ghost use Rattle.std.specs.Option.{option_copied};
 ghost use Rattle.sk_model.specs.declared.label.Label.{Label};
 ghost use Rattle.sk_model.specs.EngineReplies.{last_in};
 ghost use Rattle.sk_chain.specs.Chained.{empty, versions, IsChain};
-ghost use Rattle.sk_chain.specs.Reading.{newest, seen_at, sight, found};
+ghost use Rattle.sk_chain.specs.Reading.{newest, seen_at, shown, found};
 ghost use Rattle.sk_chain.specs.Writing.{past_of, conflict};
 ghost use Rattle.sk_chain.specs.Changing.{may_push, pushed, closed, stamped, voided, trimmed};
 
@@ -72,10 +72,10 @@ impl Chain {
     }
 
     /// The place of the version that `by` sees at the snapshot: its own, or else the newest one that is stamped with a number of at most the snapshot. It has to wait for another's closed version whose floor is below the snapshot.
-    #[tactic(auto, using(crate::proofs::Finding::sight_is))]
+    #[tactic(auto, using(crate::proofs::Finding::place_shows))]
     pub fn seen_at(&self, by: Label, snapshot: u32) -> Seen
         ensures value { result ≡ seen_at self.now by snapshot }
-        ensures finds { sight self.now by snapshot ≡ found self.now by snapshot }
+        ensures finds { shown (versions self.now) result ≡ found self.now by snapshot }
     {
         if let Some(top) = &self.top {
             if same_label(by, top.by) {
@@ -156,7 +156,7 @@ impl Chain {
     /// Drops each version that is older than the newest one stamped with a number of at most `upto`. Readers at snapshots from `upto` on, and writers, find what they found.
     pub fn trim(&mut self, upto: u32)
         ensures value { self.new ≡ trimmed self.old upto }
-        ensures reads { (by : Label) (s : ℕ) → upto ≤ s → sight self.new by s ≡ sight self.old by s }
+        ensures reads { (by : Label) (s : ℕ) → upto ≤ s → found self.new by s ≡ found self.old by s }
         ensures writes { (by : Label) (s : ℕ) → conflict self.new by s ≡ conflict self.old by s }
     {
         self.drop_older(upto);
@@ -171,19 +171,19 @@ impl Chain {
     }
 }
 
-/// The place of the last version with a number of at most the snapshot.
-#[tactic(auto, using(crate::proofs::Newest::goes_on))]
+/// The place of the last version with a number of at most the snapshot. The search begins at the newest version.
 fn newest_upto(snapshot: u32, settled: &[Version]) -> Option<usize>
     ensures at { result ≡ newest snapshot settled.now }
     ensures within { IfSome result (λ at. at < length settled.now) }
 {
-    let mut best = None;
-    for (i, version) in settled.iter().enumerate() {
+    let mut list = settled;
+    while let [older @ .., version] = list {
         if is_upto(snapshot, version.state) {
-            best = Some(i);
+            return Some(older.len());
         }
+        list = older;
     }
-    best
+    None
 }
 
 /// Whom a write at the snapshot meets in the newest of the stamped versions.

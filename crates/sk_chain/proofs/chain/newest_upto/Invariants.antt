@@ -1,12 +1,13 @@
-use Rattle.std.proofs.Common.{◌≡◌, ◌<◌, length, drop}
-use Rattle.std.specs.Prelude.{IfSome}
+use Rattle.std.proofs.Common.{◌≡◌, ◌≤◌, length}
 use Rattle.sk_chain.specs.Reading.{newest}
-use Rattle.sk_chain.proofs.Newest.{beyond}
 use Rattle.sk_chain.proofs.chain.newest_upto.Given as goal
 
--- the newest from here on, or else the best so far, is the newest of all
-abbrev pub invariant-loop-i : goal.invariant-loop-i
-invariant-loop-i l = record {
-  rest : beyond l.i (newest l.snapshot (drop l.i l.settled)) l.best ≡ newest l.snapshot l.settled;
-  within : IfSome l.best (λ at. at < length l.settled);
+-- the newest of those that are left is the newest of all
+abbrev pub invariant-loop-list : goal.invariant-loop-list
+invariant-loop-list l = record {
+  rest : newest l.snapshot l.list ≡ newest l.snapshot l.settled;
+  within : length l.list ≤ length l.settled;
 }
+
+abbrev pub decreases-loop-list : goal.decreases-loop-list
+decreases-loop-list l = length l.list
