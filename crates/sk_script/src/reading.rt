@@ -1,9 +1,10 @@
 //! A script, line by line.
 
-ghost use Rattle.std.specs.Prelude.{◌≡◌, ◌+◌, ◌≤◌, ◌<◌, [], ◌∷◌, length, IfSome, IfNone, take};
+ghost use Rattle.std.specs.Prelude.{◌≡◌, ◌+◌, ◌≤◌, ◌<◌, [], ◌∷◌, length, map, IfSome, IfNone, IfOk, take};
 ghost use Rattle.std.specs.Option.{option_copied};
 ghost use Rattle.std.specs.List.{prefix_len};
 ghost use Rattle.sk_script.specs.Script as spec;
+ghost use Rattle.sk_script.specs.Tables.{CanAdd};
 
 use crate::line::with_line;
 use crate::script::{Script, ScriptFault, ScriptLineList, TableLineList};
@@ -126,14 +127,25 @@ fn front(bytes: &[u8], most: usize) -> &[u8]
     }
 }
 
+/// Reads the bytes up to the limit of scripts.
+#[tactic(auto, unfolding(crate::specs::Script::script_of))]
+fn read_front(alloc: Global, bytes: &[u8]) -> Result<Script, ScriptFault>
+    ensures { spec.Gives result (spec.script_of bytes.now) }
+{
+    let long = bytes.len() > LONGEST;
+    read_lines(alloc, front(bytes, LONGEST), long)
+}
+
 /// The script that the bytes are, or its first fault: that of the first line with one, at its least place.
 ///
 /// Faults are a token that does not fit, passes a limit or repeats a name, a byte that is not allowed, a text that is
 /// not ended, the end of a line where more was to come, and what passes the limits of a line or of the script.
-#[tactic(auto, unfolding(crate::specs::Script::script_of))]
+#[tactic(auto, using(crate::proofs::Takings::given_tables))]
 pub fn read_script(alloc: Global, bytes: &[u8]) -> Result<Script, ScriptFault>
     ensures exact { spec.Gives result (spec.script_of bytes.now) }
+
+    // A catalog takes its tables, one after another.
+    ensures tables { IfOk result (λ script. CanAdd [] (map (λ l. l.table) script.tables)) }
 {
-    let long = bytes.len() > LONGEST;
-    read_lines(alloc, front(bytes, LONGEST), long)
+    read_front(alloc, bytes)
 }
