@@ -1,16 +1,18 @@
 //! A script that was read, played and put into text.
 
-ghost use Rattle.std.specs.Prelude.{◌≡◌, ◌∷◌, ◌++◌, [], map, IfOk, OnOk};
+ghost use Rattle.std.specs.Prelude.{◌≡◌, ◌∷◌, ◌++◌, [], map, IfOk, None, OnOk};
 ghost use Rattle.std.specs.List.{zip};
 ghost use Rattle.std.specs.String.{string_bytes};
 ghost use Rattle.sk_plain.specs.Session.{played_of};
+ghost use Rattle.sk_rows.specs.Catalog.{add_fault};
+ghost use Rattle.sk_script.specs.Tables.{CanAdd};
 ghost use Rattle.sk_script.specs.Text.{replies_text};
 ghost use Rattle.sk_serial.specs.Played as spec;
 ghost use Rattle.sk_serial.specs.Running.{IsShown};
 
 use sk_model::Reply;
 use sk_plain::{Played, StatementList, play};
-use sk_rows::{Catalog, NoMemory, Statement, Table};
+use sk_rows::{Catalog, CatalogFault, NoMemory, Statement, Table};
 use sk_script::{Line, Script, ScriptLine, TableLine, put_reply_lines, put_report};
 use std::alloc::Global;
 
@@ -28,18 +30,22 @@ struct Parts {
     statements: Vec<Statement>,
 }
 
-/// The catalog with one more table. A script has only tables that a catalog takes, so that a refusal is for memory.
+/// The catalog with one more table, which it takes.
+#[tactic(auto, using(crate::proofs::Refusals::for_memory))]
 fn with_table(catalog: Catalog, table: Table) -> Result<Catalog, NoMemory>
+    requires { add_fault catalog table ≡ None }
     ensures { IfOk result (λ c. c ≡ catalog ++ table ∷ []) }
 {
     let mut catalog = catalog;
     match catalog.add(table) {
         Ok(()) => Ok(catalog),
-        Err(_) => Err(NoMemory),
+        Err((_, CatalogFault::NoMemory)) => Err(NoMemory),
+        Err(_) => unreachable!(),
     }
 }
 
 fn catalog_of(alloc: Global, lines: Vec<TableLine>) -> Result<Catalog, NoMemory>
+    requires { CanAdd [] (map (λ l. l.table) lines.items) }
     ensures { IfOk result (λ c. c ≡ map (λ l. l.table) lines.items) }
 {
     let mut catalog = Catalog::new(alloc);
@@ -112,8 +118,9 @@ fn play_parts(alloc: Global, catalog: &Catalog, parts: Parts) -> Result<Shown, N
     Ok(Shown { played, text })
 }
 
-/// Plays a script, and puts the run into text.
+/// Plays a script, whose tables a catalog takes one after another, and puts the run into text.
 pub(crate) fn play_script(alloc: Global, script: Script) -> Result<Shown, NoMemory>
+    requires { CanAdd [] (spec.tables_in script) }
     ensures { IfOk result (λ shown. IsShown script shown) }
 {
     let Script { tables, lines } = script;

@@ -6,7 +6,9 @@ ghost use Rattle.std.specs.String.{string_bytes};
 ghost use Rattle.sk_outside.specs.Causes.{Rose};
 ghost use Rattle.sk_outside.specs.Pieces.{AppendsFront, ConsumesAtMost};
 ghost use Rattle.sk_script.specs.Words.{place as place_of};
+ghost use Rattle.sk_script.specs.Tables.{CanAdd};
 ghost use Rattle.sk_script.specs.Text.{script_fault_text};
+ghost use Rattle.sk_serial.specs.Played.{tables_in};
 ghost use Rattle.sk_serial.specs.Running as spec;
 
 use crate::playing::{Shown, play_script};
@@ -19,7 +21,8 @@ use sk_script::{Script, ScriptFault, place, put_script_fault, read_script};
 use std::alloc::Global;
 
 fn read(alloc: Global, bytes: &[u8]) -> Result<Script, Stop>
-    ensures { spec.ReadAs bytes.now result }
+    ensures script { spec.ReadAs bytes.now result }
+    ensures tables { IfOk result (λ script. CanAdd [] (tables_in script)) }
 {
     match read_script(alloc, bytes) {
         Ok(script) => Ok(script),
