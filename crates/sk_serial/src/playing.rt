@@ -31,7 +31,6 @@ struct Parts {
 }
 
 /// The catalog with one more table, which it takes.
-#[tactic(auto, using(crate::proofs::Refusals::for_memory))]
 fn with_table(catalog: Catalog, table: Table) -> Result<Catalog, NoMemory>
     requires { add_fault catalog table ≡ None }
     ensures { IfOk result (λ c. c ≡ catalog ++ table ∷ []) }
