@@ -17,22 +17,14 @@ use std::alloc::Global;
 fn small(n: usize) -> Result<u32, NoMemory>
     ensures { IfOk result (λ m. m ≡ n) }
 {
-    if n > u32::MAX as usize {
-        Err(NoMemory)
-    } else {
-        Ok(n as u32)
-    }
+    u32::try_from(n).map_err(|_| NoMemory)
 }
 
 /// One more, counted as want of memory where no number is left.
 fn next(n: u32) -> Result<u32, NoMemory>
     ensures { IfOk result (λ m. m ≡ n + 1) }
 {
-    if n == u32::MAX {
-        Err(NoMemory)
-    } else {
-        Ok(n + 1)
-    }
+    n.checked_add(1).ok_or(NoMemory)
 }
 
 /// The next transaction's label.

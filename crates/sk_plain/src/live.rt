@@ -51,24 +51,12 @@ pub(crate) fn hear(
 ) -> Result<Live, NoMemory>
     ensures { IfOk result (λ l. l ≡ spec.hear live statement reply.now) }
 {
-    let Live {
-        kind,
-        mem,
-        store,
-        mut said,
-        before,
-    } = live;
-    said.push(Said {
+    let mut live = live;
+    live.said.push(Said {
         statement,
         reply: reply.copy(alloc)?,
     })?;
-    Ok(Live {
-        kind,
-        mem,
-        store,
-        said,
-        before,
-    })
+    Ok(live)
 }
 
 fn snapshot(stored: bool, count: u32, taken: Option<u32>) -> Option<u32>
@@ -85,20 +73,9 @@ fn snapshot(stored: bool, count: u32, taken: Option<u32>) -> Option<u32>
 pub(crate) fn select(stored: bool, count: u32, live: Live) -> Live
     ensures { result ≡ spec.select stored count live }
 {
-    let Live {
-        kind,
-        mem,
-        store,
-        said,
-        before,
-    } = live;
-    Live {
-        kind,
-        mem,
-        store: snapshot(stored, count, store),
-        said,
-        before,
-    }
+    let mut live = live;
+    live.store = snapshot(stored, count, live.store);
+    live
 }
 
 /// Makes the writes of a live transaction, and notes what their rows were before.
