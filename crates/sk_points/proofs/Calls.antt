@@ -1,6 +1,6 @@
 -- What each call answers, from what its steps did.
 use Rattle.std.specs.Prelude.{◌≡◌, ℕ, [], Option, None, Result, Ok, Err, Bool, true, false, cond, not, ◌&&◌, ◌==◌, ◌≤◌, nat_lt}
-use Rattle.std.proofs.Common.{refl, sym, ap, subst, ◌∙◌, arith}
+use Rattle.std.proofs.Common.{sym, ap, subst, ◌∙◌, arith}
 use Rattle.std.proofs.lemmas.Bool.{and_parts, ltb-true, le-ltb, cond-true, cond-false}
 use Rattle.sk_model.specs.declared.point.Point.{Point}
 use Rattle.sk_model.specs.declared.point.Recycled.{Recycled}
@@ -18,9 +18,6 @@ use Rattle.sk_points.specs.Parts.{points_in}
 use Rattle.sk_points.specs.Stands.{StandsFor, Appends, AppendsCut, Picks}
 use Rattle.sk_points.proofs.Picking.{last_is, first_is, some_points}
 
-abbrev Same : Regs → Regs → Type 0
-Same r s = r ≡ s
-
 -- the numbers are drawn in each state that it stands for
 drawn_in : (p : Points) (a b : ℕ) → HasDrawn StandsFor p a b → (r : Regs) → StandsFor p r → (a ≤ r.mem) × (b ≤ r.store)
 drawn_in p a b h r s =
@@ -36,37 +33,23 @@ passes_is : (p : Points) (last : Point) (ca cb : ℕ) (b : Bool) → last ≡ la
 passes_is p last ca cb b e f r h = ap (λ (q : Point). nat_lt q.a ca && nat_lt q.b cb) (sym (e ∙ last_is p r h)) ∙ sym f
 
 pub check_passes : (old new : Points) (last : Point) (ca cb : ℕ) (b : Bool) → last ≡ last_of (points_in old.parts.items) → b ≡ (nat_lt last.a ca && nat_lt last.b cb) → b ≡ true → HasDrawn StandsFor old ca cb → Appends old new (commit_point ca cb)
-    → Answers Same StandsFor old new (λ look at. ◌≡◌ {A = Result (Unit {0}) Passed} (Ok tt) (checked at ca cb)) (λ look at. after_check at ca cb)
+    → Answers StandsFor old new (λ r. ◌≡◌ {A = Result (Unit {0}) Passed} (Ok tt) (checked r ca cb)) (λ r. after_check r ca cb)
 check_passes old new last ca cb b e f t drawn appends r h =
     let pass : passes r ca cb ≡ true = passes_is old last ca cb b e f r h ∙ t in
     let parts : (nat_lt (last_of r.points).a ca ≡ true) × (nat_lt (last_of r.points).b cb ≡ true) = and_parts (nat_lt (last_of r.points).a ca) (nat_lt (last_of r.points).b cb) pass in
-    let d : (ca ≤ r.mem) × (cb ≤ r.store) = drawn_in old ca cb drawn r h in
-    record {
-      look = r;
-      at = r;
-      now = after_check r ca cb;
-      to_look = refl;
-      to_at = refl;
-      answer = sym (cond-true (passes r ca cb) (Ok tt) (Err (record { point = last_of r.points })) pass);
-      to_now = refl;
-      stands_now = subst (λ c. StandsFor new (after_all r (cond c (append_steps r (commit_point ca cb)) []))) (sym pass)
-          (appends r h (comes_last r.points (commit_point ca cb) (some_points old r h) (check_follows (last_of r.points) ca cb (ltb-true _ _ parts.0) (ltb-true _ _ parts.1))) d.0 d.1);
-    }
+    let d : (ca ≤ r.mem) × (cb ≤ r.store) = drawn_in old ca cb drawn r h in (
+      sym (cond-true (passes r ca cb) (Ok tt) (Err (record { point = last_of r.points })) pass),
+      subst (λ c. StandsFor new (after_all r (cond c (append_steps r (commit_point ca cb)) []))) (sym pass)
+          (appends r h (comes_last r.points (commit_point ca cb) (some_points old r h) (check_follows (last_of r.points) ca cb (ltb-true _ _ parts.0) (ltb-true _ _ parts.1))) d.0 d.1),
+    )
 
 pub check_fails : (old : Points) (last : Point) (ca cb : ℕ) (b : Bool) → last ≡ last_of (points_in old.parts.items) → b ≡ (nat_lt last.a ca && nat_lt last.b cb) → b ≡ false
-    → Answers Same StandsFor old old (λ look at. ◌≡◌ {A = Result (Unit {0}) Passed} (Err (record { point = last })) (checked at ca cb)) (λ look at. after_check at ca cb)
+    → Answers StandsFor old old (λ r. ◌≡◌ {A = Result (Unit {0}) Passed} (Err (record { point = last })) (checked r ca cb)) (λ r. after_check r ca cb)
 check_fails old last ca cb b e f t r h =
-    let pass : passes r ca cb ≡ false = passes_is old last ca cb b e f r h ∙ t in
-    record {
-      look = r;
-      at = r;
-      now = after_check r ca cb;
-      to_look = refl;
-      to_at = refl;
-      answer = ap (λ (q : Point). Err (record { point = q })) (e ∙ last_is old r h) ∙ sym (cond-false (passes r ca cb) (Ok tt) (Err (record { point = last_of r.points })) pass);
-      to_now = refl;
-      stands_now = subst (λ c. StandsFor old (after_all r (cond c (append_steps r (commit_point ca cb)) []))) (sym pass) h;
-    }
+    let pass : passes r ca cb ≡ false = passes_is old last ca cb b e f r h ∙ t in (
+      ap (λ (q : Point). Err (record { point = q })) (e ∙ last_is old r h) ∙ sym (cond-false (passes r ca cb) (Ok tt) (Err (record { point = last_of r.points })) pass),
+      subst (λ c. StandsFor old (after_all r (cond c (append_steps r (commit_point ca cb)) []))) (sym pass) h,
+    )
 
 cut_is : (p : Points) (last : Point) (x y : ℕ) (made : Bool) → last ≡ last_of (points_in p.parts.items) → made ≡ ((p.store == y) && (is_within x y last && not ((last.a == x) && (last.b == y)))) → (r : Regs) → StandsFor p r
     → made ≡ makes_cut r x y r.store
@@ -93,38 +76,24 @@ cut_not_made old last x y made e f t r h =
     (is, subst (λ c. StandsFor old (after_all r (cond c (append_steps r (selection x y)) []))) (sym (sym is ∙ t)) h)
 
 pub cut_answers : (old new : Points) (x y : ℕ) (made : Bool) (cut : Option Point) → AppendsCut old new x y made → cut ≡ greatest_within x y None (points_in new.parts.items)
-    → Answers Same StandsFor old new (λ look at. ◌≡◌ {A = CutFound} (record { cut = cut; made = made }) (cut_found at x y look.store)) (λ look at. after_cut at x y look.store)
+    → Answers StandsFor old new (λ r. ◌≡◌ {A = CutFound} (record { cut = cut; made = made }) (cut_found r x y r.store)) (λ r. after_cut r x y r.store)
 cut_answers old new x y made cut did e r h =
-    let d : (made ≡ makes_cut r x y r.store) × StandsFor new (after_cut r x y r.store) = did r h in
-    record {
-      look = r;
-      at = r;
-      now = after_cut r x y r.store;
-      to_look = refl;
-      to_at = refl;
-      answer = ap (λ (b : Bool). record { cut = cut; made = b }) d.0 ∙ ap (λ (o : Option Point). record { cut = o; made = makes_cut r x y r.store }) (e ∙ ap (greatest_within x y None) d.1.live);
-      to_now = refl;
-      stands_now = d.1;
-    }
+    let d : (made ≡ makes_cut r x y r.store) × StandsFor new (after_cut r x y r.store) = did r h in (
+      ap (λ (b : Bool). record { cut = cut; made = b }) d.0 ∙ ap (λ (o : Option Point). record { cut = o; made = makes_cut r x y r.store }) (e ∙ ap (greatest_within x y None) d.1.live),
+      d.1,
+    )
 
 pub select_appends : (old new : Points) (a : ℕ) (oldest : Point) (s : Selected) → oldest ≡ first_of (points_in old.parts.items) → oldest.a ≤ a → Picks old a s → s.made ≡ true → HasDrawn StandsFor old a 0 → Appends old new (selection a s.b)
-    → Answers Same StandsFor old new (λ look at. ◌≡◌ {A = Result Selected Recycled} (Ok s) (selected at a look.store)) (λ look at. after_selection at a look.store)
+    → Answers StandsFor old new (λ r. ◌≡◌ {A = Result Selected Recycled} (Ok s) (selected r a r.store)) (λ r. after_selection r a r.store)
 select_appends old new a oldest s e l picks t drawn appends r h =
     let old_is : (oldest_of r).a ≤ a = subst (λ (q : Point). q.a ≤ a) (e ∙ first_is old r h) l in
     let not_refused : nat_lt a (oldest_of r).a ≡ false = le-ltb a (oldest_of r).a old_is in
     let is : s ≡ pick r.points a r.store = picks r h old_is in
     let answer : Ok s ≡ selected r a r.store = ap Ok is ∙ sym (cond-false (nat_lt a (oldest_of r).a) (Err (record { a = a; oldest = oldest_of r })) (Ok (pick r.points a r.store)) not_refused) in
     let d : (a ≤ r.mem) × (0 ≤ r.store) = drawn_in old a 0 drawn r h in
-    let f : CanComeLast r.points (selection a (pick r.points a r.store).b) × ((pick r.points a r.store).b ≤ r.store) = select_follows r h.sound a r.store (omega arith) (subst (λ (z : Selected). z.made ≡ true) is t) in
-    record {
-      look = r;
-      at = r;
-      now = after_selection r a r.store;
-      to_look = refl;
-      to_at = refl;
-      answer = answer;
-      to_now = refl;
-      stands_now = subst (λ (z : Result Selected Recycled). StandsFor new (after_all r (selection_steps r a z))) answer
+    let f : CanComeLast r.points (selection a (pick r.points a r.store).b) × ((pick r.points a r.store).b ≤ r.store) = select_follows r h.sound a r.store (omega arith) (subst (λ (z : Selected). z.made ≡ true) is t) in (
+      answer,
+      subst (λ (z : Result Selected Recycled). StandsFor new (after_all r (selection_steps r a z))) answer
           (subst (λ c. StandsFor new (after_all r (cond c (append_steps r (selection a s.b)) []))) (sym t)
-          (appends r h (subst (λ (z : Selected). CanComeLast r.points (selection a z.b)) (sym is) f.0) d.0 (subst (λ (z : Selected). z.b ≤ r.store) (sym is) f.1)));
-    }
+          (appends r h (subst (λ (z : Selected). CanComeLast r.points (selection a z.b)) (sym is) f.0) d.0 (subst (λ (z : Selected). z.b ≤ r.store) (sym is) f.1))),
+    )

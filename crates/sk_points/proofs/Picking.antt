@@ -9,7 +9,8 @@ use Rattle.sk_weave.specs.Registry.{Regs, is_within, first_of, last_of, oldest_o
 use Rattle.sk_points.specs.declared.points.Points.{Points}
 use Rattle.sk_points.specs.Parts.{points_in}
 use Rattle.sk_points.specs.Stands.{StandsFor, Picks}
-use Rattle.sk_points.proofs.Searching.{ascends_on, stairs_ascend, run_finds, run_ends, drop_past, last_dropped, pick_by}
+use Rattle.sk_weave.proofs.Staircase.{stairs_ascend}
+use Rattle.sk_points.proofs.Searching.{ascends_on, run_finds, run_ends, drop_past, last_dropped, pick_by}
 
 pub live_ascends : (p : Points) (r : Regs) → StandsFor p r → Ascends (points_in p.parts.items)
 live_ascends p r h = subst Ascends (sym h.live) (ascends_on (r.low * r.size) r.points (stairs_ascend r.points h.sound.stairs))

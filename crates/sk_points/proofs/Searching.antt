@@ -4,18 +4,10 @@ use Rattle.std.proofs.Common.{refl, sym, ap, subst, ◌∙◌, ⊎_elim, arith}
 use Rattle.std.specs.List.{prefix_len}
 use Rattle.std.proofs.lemmas.Bool.{cases_Bool, and_parts, and_from, leb-true, le-leb, false≢true, lt-leb, lt-ltb, le-ltb, cases_lt, cond-false, ne_eqb}
 use Rattle.sk_model.specs.declared.point.Point.{Point}
-use Rattle.sk_weave.specs.Points.{Climbs, Ascends, Staircase, last_from, first_past, chosen, pick}
+use Rattle.sk_weave.specs.Points.{Climbs, Ascends, last_from, first_past, chosen, pick}
+use Rattle.sk_weave.proofs.Staircase.{climbs_both}
 use Rattle.sk_weave.proofs.Registers.{first_dropped}
 use Rattle.sk_weave.specs.Registry.{is_within, greatest_within, no_point, first_of, last_of}
-
-climbs_both : (p : Point) (qs : List Point) → Climbs p qs → (j : ℕ) (d : Point) → j < length (p ∷ qs) → (p.a ≤ (get_or (p ∷ qs) j d).a) × (p.b ≤ (get_or (p ∷ qs) j d).b)
-climbs_both p qs h zero d l = (omega arith, omega arith)
-climbs_both p [] h (suc j) d l = absurd (omega arith)
-climbs_both p (q ∷ qs) h (suc j) d l =
-    let m : (q.a ≤ (get_or (q ∷ qs) j d).a) × (q.b ≤ (get_or (q ∷ qs) j d).b) = climbs_both q qs h.1 j d (omega arith) in
-    let s : p.a ≤ q.a = h.0.a_stays in
-    let t : p.b ≤ q.b = h.0.b_stays in
-    (omega arith, omega arith)
 
 within_less : (x y : ℕ) (p q : Point) → p.a ≤ q.a → p.b ≤ q.b → is_within x y q ≡ true → is_within x y p ≡ true
 within_less x y p q l m e =
@@ -57,10 +49,6 @@ ascends_on zero points h = h
 ascends_on (suc n) [] h = tt
 ascends_on (suc n) (p ∷ []) h = ascends_on n [] tt
 ascends_on (suc n) (p ∷ q ∷ qs) h = ascends_on n (q ∷ qs) h.1
-
-pub stairs_ascend : (points : List Point) → Staircase points → Ascends points
-stairs_ascend [] h = tt
-stairs_ascend (p ∷ qs) h = h.1
 
 -- behind a point that is not within no point is
 none_within : (x y : ℕ) (best : Option Point) (p : Point) (qs : List Point) → Climbs p qs → is_within x y p ≡ false → greatest_within x y best qs ≡ best

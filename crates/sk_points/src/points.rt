@@ -197,18 +197,11 @@ impl Points {
 }
 
 impl Registry for Points {
-    ghost use Rattle.std.specs.Prelude.{◌≡◌};
     ghost use Rattle.sk_points.specs.Stands.{StandsFor};
-    ghost use Rattle.sk_weave.specs.Registry.{Regs};
-    ghost use Rattle.sk_weave.specs.Promise.{is_moved_by_nobody};
 
     ghost stands = { StandsFor };
 
-    ghost moves = { λ (r s : Regs). r ≡ s };
-
     ghost is_sound = { λ x r h. h.sound };
-
-    ghost moves_on = { is_moved_by_nobody };
 
     fn begin(&mut self) -> u32 {
         self.mem

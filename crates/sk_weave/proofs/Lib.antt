@@ -18,3 +18,10 @@ pub mod Writers
 pub mod Wins
 pub mod Keys
 mod ReadRows
+pub mod Upto
+pub mod Engines
+pub mod Crossings
+pub mod Aheads
+pub mod Cuts
+mod PrefixExamples
+mod AheadExamples
