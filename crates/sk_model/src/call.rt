@@ -4,7 +4,7 @@ use crate::commit::CommitList;
 use crate::label::Label;
 use crate::reply::Why;
 use crate::tables::KeyedRows;
-use sk_rows::{Copies, List, NoMemory, Row, Value};
+use sk_rows::{Copies, NoMemory, Row, Value};
 use std::alloc::Global;
 
 /// A call of an engine.
@@ -107,9 +107,6 @@ pub struct Entry {
     pub call: EngineCall,
     pub reply: EngineReply,
 }
-
-/// The calls of an engine in order.
-pub type Journal = List<Entry>;
 
 impl Copies for EngineCall {
     fn copy(&self, alloc: Global) -> Result<EngineCall, NoMemory> {
