@@ -3,3 +3,5 @@ pub mod Reading
 pub mod Writing
 pub mod Changing
 pub mod Promise
+pub mod Runs
+pub mod Noting

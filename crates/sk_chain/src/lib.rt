@@ -3,10 +3,15 @@
 
 mod chain;
 mod engine;
+mod laws;
+mod noted;
+mod replies;
 mod version;
 
 pub use chain::Chain;
 pub use engine::Engine;
+pub use laws::{calls_are_legal, journal_is_legal};
+pub use noted::Noted;
 pub use version::{Blocked, Seen, Version, VersionState};
 
 #[cfg(test)]

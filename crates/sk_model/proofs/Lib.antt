@@ -15,4 +15,5 @@ pub mod Stamping
 pub mod Fitting
 mod EngineRows
 pub mod Layers
+pub mod Runs
 mod Rows

@@ -21,7 +21,7 @@ use Rattle.sk_model.specs.Engine.{Standing, Open, Closed, Stamped, Dropped, Vers
 use Rattle.sk_model.specs.EngineReplies.{is_rival, put_answer, conflict_or, past_or, past_of, last_in, is_used, answer_of}
 use Rattle.sk_model.specs.EngineChanges.{restood, restand, put_version, without_opening, opening_at, change}
 use Rattle.sk_model.specs.EngineConditions.{may, is_closed, is_standing, floor_of, empty_of}
-use Rattle.sk_model.specs.Legal.{step, after_entries, is_refusal, due, touches, IsReply, Legal}
+use Rattle.sk_model.specs.Legal.{step, after_entries, is_refusal, due, may_fail, IsReply, Legal}
 use Rattle.sk_model.proofs.Lists.{Each, each_both, each_weaker}
 use Rattle.sk_model.proofs.Lookups.{hits_is, hits_itself}
 use Rattle.sk_model.proofs.Labels.{same_is, openings_put, openings_closed, openings_without}
@@ -341,7 +341,7 @@ good_entries e (j ∷ js) l h = good_entries (step e j) js l.1 (step_keeps Good 
   where
     answered : may e j.call ≡ true → is_refusal j.reply ≡ false → is_refusal (answer_of e j.call) ≡ false
     answered m r = ⊎_elim
-        (λ (d : (touches j.call ≡ true) × (j.reply ≡ Fault fault.Device)). absurd (false≢true (sym r ∙ ap is_refusal d.1)))
+        (λ (d : (may_fail e j.call ≡ true) × (j.reply ≡ Fault fault.Device)). absurd (false≢true (sym r ∙ ap is_refusal d.1)))
         (λ (d : due e j.call ≡ j.reply). ap is_refusal (sym (cond-true (may e j.call) (answer_of e j.call) (empty_of j.call) m) ∙ d) ∙ r)
         l.0
 

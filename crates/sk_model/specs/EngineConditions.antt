@@ -4,6 +4,7 @@ use Rattle.std.specs.Ordering.{eq_by_cmp}
 use Rattle.sk_rows.specs.declared.value.Value.{Value}
 use Rattle.sk_rows.specs.declared.value.Value.TheVariants as value
 use Rattle.sk_rows.specs.declared.table.Column.{Column}
+use Rattle.sk_rows.specs.declared.table.Table.{Table}
 use Rattle.sk_rows.specs.Typing.{same_sort}
 use Rattle.sk_rows.specs.Values.{value_cmp, sort_of}
 use Rattle.sk_model.specs.declared.label.Label.{Label}
@@ -58,10 +59,13 @@ abbrev pub has_key : EngineTable → ℕ → Value → Bool
 has_key e t key = fits_key (columns_at e.catalog t) key
 
 -- the row fits the table, and begins with the key
+abbrev pub fits_at : List Table → ℕ → Value → RowOf → Bool
+fits_at tables t key row = have_sorts row (columns_at tables t) && (are_short row && (has_room row && eq_by_cmp value_cmp key (key_of row)))
+
+-- a row that is put fits the table, and a key without a row is short
 abbrev pub has_row : EngineTable → ℕ → Value → Option RowOf → Bool
 has_row e t key None = is_short key
-has_row e t key (Some row) =
-    have_sorts row (columns_at e.catalog t) && (are_short row && (has_room row && eq_by_cmp value_cmp key (key_of row)))
+has_row e t key (Some row) = fits_at e.catalog t key row
 
 -- a closed opening, and a number past its floor that is not used yet
 abbrev pub may_end : EngineTable → Label → ℕ → Bool

@@ -45,9 +45,13 @@ touches call.Horizon = false
 touches (call.Records from to) = true
 touches (call.Purge upto) = true
 
+-- a device may fail this call: it touches a page, and its condition holds, so that it is made
+abbrev pub may_fail : EngineTable → EngineCall → Bool
+may_fail e c = may e c && touches c
+
 -- the reply is the one of the table, or the fault of a device where one may come
 abbrev pub IsReply : EngineTable → EngineCall → EngineReply → Type 0
-IsReply e c reply = ((touches c ≡ true) × (reply ≡ Fault fault.Device)) ⊎ (due e c ≡ reply)
+IsReply e c reply = ((may_fail e c ≡ true) × (reply ≡ Fault fault.Device)) ⊎ (due e c ≡ reply)
 
 -- each reply is the one of the table that the entries before it leave
 abbrev pub Legal : EngineTable → List Entry → Type 0

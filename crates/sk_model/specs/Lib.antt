@@ -9,6 +9,8 @@ pub mod EngineReplies
 pub mod EngineChanges
 pub mod EngineConditions
 pub mod Legal
+pub mod Resembling
+pub mod Journal
 pub mod Calls
 pub mod Stamped
 pub mod EngineLaws

@@ -4,7 +4,8 @@ use crate::commit::CommitList;
 use crate::label::Label;
 use crate::reply::Why;
 use crate::tables::KeyedRows;
-use sk_rows::{List, Row, Value};
+use sk_rows::{Copies, NoMemory, Row, Value};
+use std::alloc::Global;
 
 /// A call of an engine.
 #[derive(Debug, Drop)]
@@ -78,6 +79,17 @@ pub enum EngineFault {
     NoMemory,
 }
 
+impl From<NoMemory> for EngineFault {
+    ghost use Rattle.std.specs.Prelude.{◌≡◌};
+    ghost use Rattle.sk_model.specs.declared.call.EngineFault.TheVariants as fault;
+
+    ghost from_gives = { λ _ e. e ≡ fault.NoMemory };
+
+    fn from(_e: NoMemory) -> EngineFault {
+        EngineFault::NoMemory
+    }
+}
+
 /// What an engine replies.
 #[derive(Debug, Drop)]
 pub enum EngineReply {
@@ -96,5 +108,65 @@ pub struct Entry {
     pub reply: EngineReply,
 }
 
-/// The calls of an engine in order.
-pub type Journal = List<Entry>;
+impl Copies for EngineCall {
+    fn copy(&self, alloc: Global) -> Result<EngineCall, NoMemory> {
+        match self {
+            EngineCall::Open { tx, snapshot } => Ok(EngineCall::Open {
+                tx: *tx,
+                snapshot: *snapshot,
+            }),
+            EngineCall::Get { tx, table, key } => Ok(EngineCall::Get {
+                tx: *tx,
+                table: *table,
+                key: key.copy(alloc)?,
+            }),
+            EngineCall::Scan { tx, table } => Ok(EngineCall::Scan {
+                tx: *tx,
+                table: *table,
+            }),
+            EngineCall::Put {
+                tx,
+                table,
+                key,
+                row,
+            } => Ok(EngineCall::Put {
+                tx: *tx,
+                table: *table,
+                key: key.copy(alloc)?,
+                row: row.copy(alloc)?,
+            }),
+            EngineCall::Close { tx } => Ok(EngineCall::Close { tx: *tx }),
+            EngineCall::Stamp { tx, n } => Ok(EngineCall::Stamp { tx: *tx, n: *n }),
+            EngineCall::Void { tx, n } => Ok(EngineCall::Void { tx: *tx, n: *n }),
+            EngineCall::DropTx { tx } => Ok(EngineCall::DropTx { tx: *tx }),
+            EngineCall::Horizon => Ok(EngineCall::Horizon),
+            EngineCall::Records { from, to } => Ok(EngineCall::Records {
+                from: *from,
+                to: *to,
+            }),
+            EngineCall::Purge { upto } => Ok(EngineCall::Purge { upto: *upto }),
+        }
+    }
+}
+
+impl Copies for EngineReply {
+    fn copy(&self, alloc: Global) -> Result<EngineReply, NoMemory> {
+        match self {
+            EngineReply::Done => Ok(EngineReply::Done),
+            EngineReply::Found(row) => Ok(EngineReply::Found(row.copy(alloc)?)),
+            EngineReply::Rows(rows) => Ok(EngineReply::Rows(rows.copy(alloc)?)),
+            EngineReply::Number(n) => Ok(EngineReply::Number(*n)),
+            EngineReply::Commits(commits) => Ok(EngineReply::Commits(commits.copy(alloc)?)),
+            EngineReply::Fault(fault) => Ok(EngineReply::Fault(*fault)),
+        }
+    }
+}
+
+impl Copies for Entry {
+    fn copy(&self, alloc: Global) -> Result<Entry, NoMemory> {
+        Ok(Entry {
+            call: self.call.copy(alloc)?,
+            reply: self.reply.copy(alloc)?,
+        })
+    }
+}

@@ -4,6 +4,7 @@
 mod call;
 mod commit;
 mod engine;
+mod journal;
 mod label;
 mod laws;
 mod outcome;
@@ -13,9 +14,10 @@ mod reply;
 mod step;
 mod tables;
 
-pub use call::{EngineCall, EngineFault, EngineReply, Entry, Journal};
+pub use call::{EngineCall, EngineFault, EngineReply, Entry};
 pub use commit::{Commit, CommitList, Write, WriteList};
 pub use engine::EngineName;
+pub use journal::{HorizonRun, Journal, JournalPart, JournalWriter};
 pub use label::Label;
 pub use laws::{
     journal_grows, own_writes, reads_snapshot, rows_fit, stamped_are_commits, stamped_at_snapshot,
