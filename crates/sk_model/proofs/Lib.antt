@@ -13,5 +13,6 @@ pub mod Listed
 pub mod Stamping
 pub mod Fitting
 mod EngineRows
+mod OneDatabaseExamples
 pub mod Layers
 mod Rows

@@ -12,7 +12,7 @@ use Rattle.sk_model.specs.declared.record.Record.{Record}
 use Rattle.sk_model.specs.declared.record.Ending.{Ending}
 use Rattle.sk_model.specs.Database.{Tables, state, after_commit, net}
 use Rattle.sk_model.specs.Records.{Told, written, clashes, FirstWins, AtMost, IsLater, Follows, Fresh, same_label, own_place, all_commits, commits_of, committed_as}
-use Rattle.sk_weave.specs.Weave.{place}
+use Rattle.sk_model.specs.Places.{place}
 use Rattle.sk_model.proofs.Labels.{same_itself}
 use Rattle.sk_model.proofs.Lookups.{Sorted, sorted_after_writes, state_is}
 use Rattle.sk_model.proofs.Lists.{each_append, each_both, each_weaker}

@@ -12,7 +12,7 @@ use Rattle.sk_model.specs.declared.record.Record.{Record}
 use Rattle.sk_model.specs.declared.record.Ending.TheVariants as ending
 use Rattle.sk_model.specs.Database.{Tables, state, after_writes, net}
 use Rattle.sk_model.specs.Records.{AtMost, some_writes, committed_as}
-use Rattle.sk_weave.specs.Weave.{upto, is_wanted}
+use Rattle.sk_model.specs.Places.{upto, is_wanted}
 use Rattle.sk_model.proofs.Lists.{each_both, each_weaker}
 use Rattle.sk_model.proofs.Nets.{each_net}
 use Rattle.sk_plain.specs.Standing.{Live, is_stored, mem_count, store_count, wrote, drawn, record_of}

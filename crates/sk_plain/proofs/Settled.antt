@@ -12,7 +12,7 @@ use Rattle.sk_model.specs.declared.commit.Commit.{Commit}
 use Rattle.sk_model.specs.declared.record.Record.{Record}
 use Rattle.sk_model.specs.Database.{Tables, state, net}
 use Rattle.sk_model.specs.Records.{Told, written, Explained, FirstWins, AtMost, WinsFirst, Fresh, same_label, own_place, all_commits, commits_of, committed_as}
-use Rattle.sk_weave.specs.Weave.{is_wanted, place}
+use Rattle.sk_model.specs.Places.{is_wanted, place}
 use Rattle.sk_model.proofs.Lists.{each_weaker}
 use Rattle.sk_model.proofs.Lookups.{Sorted}
 use Rattle.sk_plain.specs.Standing.{opening_of, mem_count, store_count}

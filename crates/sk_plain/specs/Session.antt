@@ -14,7 +14,7 @@ use Rattle.sk_model.specs.Database.{Tables, table_of}
 use Rattle.sk_model.specs.Names.{table_at, columns_at}
 use Rattle.sk_model.specs.Reads.{rows_read}
 use Rattle.sk_model.specs.Replies.{Answer, comes_to, key_read, refusal_in}
-use Rattle.sk_weave.specs.Weave.{place}
+use Rattle.sk_model.specs.Places.{place}
 use Rattle.sk_plain.specs.declared.played.Played.{Played}
 use Rattle.sk_plain.specs.Standing.{Live, Standing, nothing_yet, is_stored, next_label, kind_of, started, may_use, selected, heard, answered, with_live, committed, given_up}
 
