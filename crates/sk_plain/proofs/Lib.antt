@@ -7,6 +7,7 @@ pub mod Drawing
 pub mod Endings
 pub mod Entries
 pub mod Growing
+pub mod InTurn
 pub mod Keeping
 pub mod KeptEnds
 pub mod KeptInside
