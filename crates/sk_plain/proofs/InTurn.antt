@@ -8,6 +8,9 @@ use Rattle.sk_model.specs.Numbers.{Rises}
 use Rattle.sk_model.specs.Records.{AtMost, same_label, Unlike, InTurn}
 use Rattle.sk_plain.specs.Standing.{drawn}
 
+some_is : {x y : ℕ} → Some x ≡ Some y → x ≡ y
+some_is e = cc
+
 module _ (number : Commit → Option ℕ) where
   abbrev numbered : List Commit → List Commit
   numbered cs = filter (λ c. is_some (number c)) cs
@@ -20,20 +23,14 @@ module _ (number : Commit → Option ℕ) where
   rises_more : (low m : ℕ) (order cs : List Commit) → low ≤ m → Rises number low (numbered order) → AllByRecursion (λ c. AtMost (number c) m) order → Rises number m (numbered cs)
       → Rises number low (numbered (order ++ cs))
   rises_more low m [] cs l h most more = rises_from low m (numbered cs) l more
-  rises_more low m (c ∷ order) cs l h most more = by (number c) refl h most.0
+  rises_more low m (c ∷ order) cs l h most more = by (λ low l h. rises_more low m order cs l h most.1 more) (number c) refl h most.0
     where
-      go : (low : ℕ) → low ≤ m → Rises number low (numbered order) → Rises number low (numbered (order ++ cs))
-      go low l h = rises_more low m order cs l h most.1 more
-
-      by : (o : Option ℕ) → number c ≡ o → Rises number low (cond (is_some o) (c ∷ numbered order) (numbered order)) → AtMost o m
+      by : ((low : ℕ) → low ≤ m → Rises number low (numbered order) → Rises number low (numbered (order ++ cs))) → (o : Option ℕ) → number c ≡ o → Rises number low (cond (is_some o) (c ∷ numbered order) (numbered order)) → AtMost o m
           → Rises number low (cond (is_some o) (c ∷ numbered (order ++ cs)) (numbered (order ++ cs)))
-      by None is h most = go low l h
-      by (Some n) is h most =
+      by go None is h most = go low l h
+      by go (Some n) is h most =
           let same : h.0 ≡ n = some_is (sym h.1 ∙ is) in
           (h.0, h.1, h.2, go h.0 (subst (λ k. k ≤ m) (sym same) most) h.3)
-
-      some_is : {x y : ℕ} → Some x ≡ Some y → x ≡ y
-      some_is e = cc
 
   pub in_turn_more : (m : ℕ) (order cs : List Commit) → InTurn number order → AllByRecursion (λ c. AtMost (number c) m) order → Rises number m (numbered cs) → InTurn number (order ++ cs)
   in_turn_more m order cs h most more = rises_more 0 m order cs (omega arith) h most more
@@ -41,7 +38,7 @@ module _ (number : Commit → Option ℕ) where
   -- the next number is past those that were drawn
   pub drawn_rises : (b : Bool) (n : ℕ) (c : Commit) → number c ≡ drawn b n → Rises number n (numbered (c ∷ []))
   drawn_rises false n c is = rw is tt
-  drawn_rises true n c is = rw is (n + 1, refl, omega arith, tt)
+  drawn_rises true n c is = rw is (n + 1, is, omega arith, tt)
 
 others_more : (label : Label) (order cs : List Commit) → AllByRecursion (λ l. same_label label l ≡ false) (map (λ c. c.label) order) → AllByRecursion (λ (c : Commit). same_label label c.label ≡ false) cs
     → AllByRecursion (λ l. same_label label l ≡ false) (map (λ c. c.label) (order ++ cs))

@@ -21,6 +21,7 @@ pub mod SameRun
 pub mod Settled
 pub mod Shown
 pub mod Sound
+pub mod Speaking
 pub mod Telling
 pub mod Underway
 pub mod Undoing

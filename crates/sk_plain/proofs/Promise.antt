@@ -95,8 +95,7 @@ module _ (catalog : List Table) (st : Standing) (settled : Settled catalog st.ta
   outside_says stands (statement.Delete table e) = outside_stands (statement.Delete table e) stands (named catalog (statement.Delete table e)) (λ db. refl)
 
   inside_says : (live : Live) → Underway catalog st.tables st.order live → (s : Statement) → Stands catalog (says_inside catalog st live s).0
-  inside_says live under (statement.Begin begun) =
-      with_stands (heard live (statement.Begin begun) (reply.Refused err.InTransaction)) (hears catalog st.tables st.order live under (statement.Begin begun) (reply.Refused err.InTransaction) refl)
+  inside_says live under (statement.Begin begun) = with_stands live under
   inside_says live under statement.Commit = has_committed (heard live statement.Commit reply.Committed) (hears catalog st.tables st.order live under statement.Commit reply.Committed refl)
   inside_says live under statement.Rollback = gave_up (heard live statement.Rollback reply.RolledBack) (hears catalog st.tables st.order live under statement.Rollback reply.RolledBack refl)
   inside_says live under (statement.Insert table values) = inside_stands (statement.Insert table values) live under (named catalog (statement.Insert table values)) (λ db. refl)
