@@ -14,6 +14,7 @@ pub mod Listed
 pub mod Stamping
 pub mod Fitting
 mod EngineRows
+mod OneDatabaseExamples
 pub mod Layers
 pub mod Runs
 mod Rows

@@ -2,7 +2,9 @@ pub mod Changes
 pub mod Database
 pub mod Names
 pub mod Reads
+pub mod Places
 pub mod Records
+pub mod Spoken
 pub mod Numbers
 pub mod Engine
 pub mod EngineReplies

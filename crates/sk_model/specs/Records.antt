@@ -1,6 +1,7 @@
 -- What a record of a transaction promises against the list of commits.
-use Rattle.std.specs.Prelude.{◌≡◌, ℕ, ◌-◌, ◌<◌, ◌≤◌, List, [], ◌∷◌, ◌++◌, Option, Some, None, Bool, true, false, cond, ◌==◌, ◌&&◌, take, drop, position, IfSome}
-use Rattle.std.specs.List.{list_any, AllByRecursion}
+use Rattle.std.specs.Prelude.{◌≡◌, ℕ, ◌-◌, ◌<◌, ◌≤◌, List, [], ◌∷◌, ◌++◌, Option, Some, None, Bool, true, false, cond, ◌==◌, ◌&&◌, map, take, drop, position, is_some, IfSome}
+use Rattle.std.specs.List.{filter, list_any, AllByRecursion, IsDistinct}
+use Rattle.std.specs.List.Sorted.{IsPermutation}
 use Rattle.sk_rows.specs.declared.table.Table.{Table}
 use Rattle.sk_model.specs.declared.label.Label.{Label}
 use Rattle.sk_model.specs.declared.commit.Write.{Write}
@@ -10,6 +11,8 @@ use Rattle.sk_model.specs.declared.record.Record.{Record}
 use Rattle.sk_model.specs.declared.record.Ending.{Ending}
 use Rattle.sk_model.specs.declared.record.Ending.TheVariants as ending
 use Rattle.sk_model.specs.Database.{Tables, hits, after_writes, state, net}
+use Rattle.sk_model.specs.Numbers.{Rises}
+use Rattle.sk_model.specs.Places.{place}
 use Rattle.sk_model.specs.Replies.{reply_of, writes_of, is_judged, is_count}
 
 -- the writes of a statement with its reply: a count alone tells that it wrote
@@ -103,10 +106,29 @@ all_commits catalog opening order [] rs = []
 all_commits catalog opening order (p ∷ ps) [] = []
 all_commits catalog opening order (p ∷ ps) (r ∷ rs) = commits_of catalog opening order p r ++ all_commits catalog opening order ps rs
 
--- The promise: these records are of one database with this list of commits. Each record reads one prefix of the list with
--- its own writes; the list has exactly what committed and wrote; the first committer wins; no session goes back.
+-- the record's place is that of its snapshots: the length of the shortest prefix that holds what they see
+abbrev pub ReadsAt : List Commit → ℕ → Record → Type 0
+ReadsAt order p r = p ≡ place order r.mem r.store
+
+-- no two commits have one label
+abbrev pub Unlike : List Commit → Type 0
+Unlike order = IsDistinct same_label (map (λ c. c.label) order)
+
+-- the numbers of one engine rise strictly along the list
+abbrev pub InTurn : (Commit → Option ℕ) → List Commit → Type 0
+InTurn number order = Rises number 0 (filter (λ c. is_some (number c)) order)
+
+-- The promise: these records are of one database with this list of commits, whatever the order in which they began and ended.
 pub record OneDatabase (catalog : List Table) (opening : Tables) (order : List Commit) (places : List ℕ) (records : List Record) : Type 0 where
+  -- each record reads one prefix of the list, that of its snapshots, with its own writes
   pub explained : EachAt (Explained catalog opening order) places records
-  pub listed : order ≡ all_commits catalog opening order places records
+  pub placed : EachAt (ReadsAt order) places records
+  -- the list has exactly what committed and wrote, each once, with the numbers that it drew
+  pub listed : IsPermutation (all_commits catalog opening order places records) order
+  pub unlike : Unlike order
+  -- it goes by the numbers of each engine
+  pub by_mem : InTurn (λ c. c.mem) order
+  pub by_store : InTurn (λ c. c.store) order
+  -- the first committer wins, and no session goes back
   pub first_wins : EachAt (WinsFirst catalog opening order) places records
   pub fresh : Fresh records

@@ -4,7 +4,7 @@ use Rattle.std.proofs.Common.{refl, sym, ap, ◌∙◌, arith}
 use Rattle.std.specs.List.{list_any}
 use Rattle.std.proofs.lemmas.Bool.{ltb-true, ltb-false}
 use Rattle.sk_model.specs.declared.commit.Commit.{Commit}
-use Rattle.sk_weave.specs.Weave.{upto, is_wanted, place}
+use Rattle.sk_model.specs.Places.{upto, is_wanted, place}
 use Rattle.sk_plain.specs.Desk.{Drawn}
 use Rattle.sk_plain.specs.Playing.{later, seen_prefix}
 use Rattle.sk_plain.specs.Standing.{mem_count, store_count}

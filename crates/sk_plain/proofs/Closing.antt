@@ -12,7 +12,7 @@ use Rattle.sk_model.specs.declared.record.Record.{Record}
 use Rattle.sk_model.specs.declared.record.Ending.{Ending}
 use Rattle.sk_model.specs.Database.{Tables, state, after_commit, net}
 use Rattle.sk_model.specs.Records.{Told, written, clashes, FirstWins, AtMost, IsLater, Follows, Fresh, same_label, own_place, all_commits, commits_of, committed_as}
-use Rattle.sk_weave.specs.Weave.{place}
+use Rattle.sk_model.specs.Places.{place}
 use Rattle.sk_model.proofs.Labels.{same_itself}
 use Rattle.sk_model.proofs.Lookups.{Sorted, sorted_after_writes, state_is}
 use Rattle.sk_model.proofs.Lists.{each_append, each_both, each_weaker}
@@ -22,6 +22,7 @@ use Rattle.sk_plain.proofs.Telling.{told_moves, written_moves}
 use Rattle.sk_plain.proofs.Underway.{Underway, is_covered}
 use Rattle.sk_plain.proofs.Unwanted.{Numbered, unused_behind, no_clash}
 use Rattle.sk_plain.proofs.Growing.{place_within, Others, own_place_grows, own_place_none, own_place_new, first_wins_grows}
+use Rattle.sk_plain.proofs.InTurn.{in_turn_more, unlike_more}
 use Rattle.sk_plain.proofs.Settled.{Holds, Settled, Adds, place_of, at_most_more, unlike, mems_rise, stores_rise, wins_from, prefix_stays, holds_still, numbered_still, listed_still}
 
 -- the label of the next transaction
@@ -150,5 +151,12 @@ module _ (catalog : List Table) (tables : Tables) (order : List Commit) (records
       listed = ap (λ xs. xs ++ cs) settled.listed
           ∙ ap (λ ys. all_commits catalog (opening_of catalog) order (map (place_of order) records) records ++ ys) (sym new_commits)
           ∙ sym (listed_still catalog order cs (next records) adds (opening_of catalog) (length records) records r settled.each);
+      unlike = unlike_more order cs settled.unlike (each_weaker (λ (c : Commit). c.label.k ≤ length records) (λ (c : Commit). AllByRecursion (λ (d : Commit). same_label c.label d.label ≡ false) cs)
+          (λ c l. each_weaker (λ (d : Commit). d.label ≡ next records) (λ (d : Commit). same_label c.label d.label ≡ false)
+          (λ d is. unlike c.label d.label (λ e. let same : d.label.k ≡ length records + 1 = ap (λ (x : Label). x.k) is in omega arith)) cs adds.labels) order settled.labels) adds.unlike;
+      by_mem = in_turn_more (λ c. c.mem) (mem_count order) order cs settled.by_mem
+          (each_weaker (Numbered catalog (mem_count order) (store_count order)) (λ c. AtMost c.mem (mem_count order)) (λ c h. h.mem) order settled.numbered) adds.by_mem;
+      by_store = in_turn_more (λ c. c.store) (store_count order) order cs settled.by_store
+          (each_weaker (Numbered catalog (mem_count order) (store_count order)) (λ c. AtMost c.store (store_count order)) (λ c h. h.store) order settled.numbered) adds.by_store;
       fresh = fresh_more records r settled.fresh (each_weaker (Holds catalog (opening_of catalog) order (length records)) (λ x. Follows x r × Follows r x) follow records settled.each) (λ same less. absurd (omega arith));
     }

@@ -1,7 +1,7 @@
 -- The two ends of a transaction: it is given up, or it commits with the next number of each engine that it wrote.
 use Rattle.std.specs.Prelude.{◌≡◌, ℕ, ◌+◌, Bool, true, false, cond, not, List, [], ◌∷◌, ◌++◌, length, Option, Some, None, is_some}
 use Rattle.std.proofs.Common.{refl, sym, ap, subst, ◌∙◌, arith}
-use Rattle.std.specs.List.{list_any, AllByRecursion}
+use Rattle.std.specs.List.{list_any, AllByRecursion, IsDistinct}
 use Rattle.std.proofs.lemmas.Bool.{lt-leb, or_from, or_left, or_right}
 use Rattle.std.proofs.lemmas.List.{append-nil}
 use Rattle.sk_rows.specs.declared.table.Table.{Table}
@@ -11,8 +11,8 @@ use Rattle.sk_model.specs.declared.commit.Commit.{Commit}
 use Rattle.sk_model.specs.declared.record.Record.{Record}
 use Rattle.sk_model.specs.declared.record.Ending.TheVariants as ending
 use Rattle.sk_model.specs.Database.{Tables, state, after_writes, net}
-use Rattle.sk_model.specs.Records.{AtMost, some_writes, committed_as}
-use Rattle.sk_weave.specs.Weave.{upto, is_wanted}
+use Rattle.sk_model.specs.Records.{AtMost, some_writes, committed_as, Unlike}
+use Rattle.sk_model.specs.Places.{upto, is_wanted}
 use Rattle.sk_model.proofs.Lists.{each_both, each_weaker}
 use Rattle.sk_model.proofs.Nets.{each_net}
 use Rattle.sk_plain.specs.Standing.{Live, is_stored, mem_count, store_count, wrote, drawn, record_of}
@@ -22,9 +22,15 @@ use Rattle.sk_plain.proofs.NetWrites.{net_leaves}
 use Rattle.sk_plain.proofs.Underway.{Underway, is_covered}
 use Rattle.sk_plain.proofs.Settled.{Settled, Adds, mem_count_append, store_count_append}
 use Rattle.sk_plain.proofs.Closing.{next, closes}
+use Rattle.sk_plain.proofs.InTurn.{drawn_rises}
 
 adds_none : (catalog : List Table) (order : List Commit) (label : Label) → Adds catalog order label []
-adds_none catalog order label = record { unwanted = λ m s p q. refl; labels = tt; numbered = tt }
+unfolding IsDistinct
+adds_none catalog order label = record { unwanted = λ m s p q. refl; labels = tt; numbered = tt; unlike = tt; by_mem = tt; by_store = tt }
+
+one_unlike : (c : Commit) → Unlike (c ∷ [])
+unfolding IsDistinct
+one_unlike c = (tt, tt)
 
 -- no snapshot up to n holds the number that is drawn past n
 pub not_upto : (m : Option ℕ) (b : Bool) (n : ℕ) → AtMost m n → upto m (drawn b n) ≡ false
@@ -122,6 +128,9 @@ module _ (catalog : List Table) (tables : Tables) (order : List Commit) (records
           },
           tt,
         );
+        unlike = one_unlike c;
+        by_mem = drawn_rises (λ c. c.mem) (wrote catalog false live.writes) (mem_count order) c refl;
+        by_store = drawn_rises (λ c. c.store) (wrote catalog true live.writes) (store_count order) c refl;
       }
 
   pub commits : Settled catalog live.tables (order ++ committed_as r (net live.writes)) (records ++ r ∷ [])

@@ -11,7 +11,7 @@ use Rattle.sk_model.specs.declared.record.Record.{Record}
 use Rattle.sk_model.specs.declared.record.Ending.TheVariants as ending
 use Rattle.sk_model.specs.Database.{Tables, net, write_of, after_writes}
 use Rattle.sk_model.specs.Records.{AtMost, some_writes, committed_as}
-use Rattle.sk_weave.specs.Weave.{upto, is_wanted, place}
+use Rattle.sk_model.specs.Places.{upto, is_wanted, place}
 use Rattle.sk_plain.specs.Before.{writes_at}
 use Rattle.sk_plain.specs.Desk.{Kept, KeptLive}
 use Rattle.sk_plain.specs.Playing.{after_draw, place_now, record_for, commit_with, commit_all, commit, give_up}

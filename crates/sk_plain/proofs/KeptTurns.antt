@@ -52,7 +52,7 @@ module _ (catalog : List Table) (st : Standing) (settled : Settled catalog st.ta
   -- a statement of the live transaction
   module _ (live : Live) (sound : Sound st.tables st.order live) where
     inside_says_is : (s : Statement) → Same (playing.says_inside catalog (desk_at st live) (kept_live st.tables live) s) (session.says_inside catalog st live s)
-    inside_says_is (statement.Begin begun) = told_is st live sound (statement.Begin begun) (reply.Refused err.InTransaction)
+    inside_says_is (statement.Begin begun) = record { is = refl; sound = sound }
     inside_says_is statement.Commit =
         subst (λ kept. Same (playing.no_live (commit catalog (desk_at st live) kept) reply.Committed) (committed catalog st (heard live statement.Commit reply.Committed), reply.Committed))
         (sym (hear_is st live sound statement.Commit reply.Committed))

@@ -7,6 +7,7 @@ pub mod Drawing
 pub mod Endings
 pub mod Entries
 pub mod Growing
+pub mod InTurn
 pub mod Keeping
 pub mod KeptEnds
 pub mod KeptInside
@@ -20,6 +21,7 @@ pub mod SameRun
 pub mod Settled
 pub mod Shown
 pub mod Sound
+pub mod Speaking
 pub mod Telling
 pub mod Underway
 pub mod Undoing

@@ -1,7 +1,9 @@
 -- The run of one session is a run of one database.
 use Rattle.std.specs.Prelude.{◌≡◌, ℕ, zero, suc, List, [], ◌∷◌, length, map, Option, Some, None}
-use Rattle.std.proofs.Common.{refl, ap, ◌∙◌}
-use Rattle.std.specs.List.{AllByRecursion}
+use Rattle.std.proofs.Common.{refl, ap, subst, ◌∙◌}
+use Rattle.std.specs.List.{AllByRecursion, IsDistinct}
+use Rattle.std.specs.List.Sorted.{IsPermutation}
+use Rattle.std.proofs.lemmas.List.Sorted.{IsPermutation-refl}
 use Rattle.std.proofs.lemmas.Bool.{cond_both}
 use Rattle.sk_rows.specs.declared.table.Table.{Table}
 use Rattle.sk_rows.specs.declared.statement.Statement.{Statement}
@@ -14,7 +16,7 @@ use Rattle.sk_model.specs.declared.record.Record.{Record}
 use Rattle.sk_model.specs.Database.{Tables, table_of}
 use Rattle.sk_model.specs.Names.{columns_at}
 use Rattle.sk_model.specs.Replies.{Answer, refusal_in, answer_in, answer_on, answer_of}
-use Rattle.sk_model.specs.Records.{Explained, WinsFirst, EachAt, OneDatabase}
+use Rattle.sk_model.specs.Records.{Explained, ReadsAt, WinsFirst, EachAt, OneDatabase}
 use Rattle.sk_plain.specs.Standing.{Live, Standing, opening_of, nothing_yet, is_stored, next_label, kind_of, started, may_use, selected, heard, answered, with_live, committed, given_up}
 use Rattle.sk_plain.specs.Session.{Turn, answer_at, inside_at, inside, is_refused, engine_kind, outside_at, outside, named, says_outside, says_inside, says_by, says, behind, ended_by, end_of, played_of}
 use Rattle.sk_model.proofs.Lookups.{Sorted}
@@ -93,8 +95,7 @@ module _ (catalog : List Table) (st : Standing) (settled : Settled catalog st.ta
   outside_says stands (statement.Delete table e) = outside_stands (statement.Delete table e) stands (named catalog (statement.Delete table e)) (λ db. refl)
 
   inside_says : (live : Live) → Underway catalog st.tables st.order live → (s : Statement) → Stands catalog (says_inside catalog st live s).0
-  inside_says live under (statement.Begin begun) =
-      with_stands (heard live (statement.Begin begun) (reply.Refused err.InTransaction)) (hears catalog st.tables st.order live under (statement.Begin begun) (reply.Refused err.InTransaction) refl)
+  inside_says live under (statement.Begin begun) = with_stands live under
   inside_says live under statement.Commit = has_committed (heard live statement.Commit reply.Committed) (hears catalog st.tables st.order live under statement.Commit reply.Committed refl)
   inside_says live under statement.Rollback = gave_up (heard live statement.Rollback reply.RolledBack) (hears catalog st.tables st.order live under statement.Rollback reply.RolledBack refl)
   inside_says live under (statement.Insert table values) = inside_stands (statement.Insert table values) live under (named catalog (statement.Insert table values)) (λ db. refl)
@@ -120,7 +121,8 @@ no_rows (table ∷ catalog) zero = tt
 no_rows (table ∷ catalog) (suc t) = no_rows catalog t
 
 pub starts_settled : (catalog : List Table) → Settled catalog (opening_of catalog) [] []
-starts_settled catalog = record { is = refl; in_order = no_rows catalog; numbered = tt; labels = tt; each = tt; listed = refl; fresh = tt }
+unfolding IsDistinct
+starts_settled catalog = record { is = refl; in_order = no_rows catalog; numbered = tt; labels = tt; each = tt; listed = refl; unlike = tt; by_mem = tt; by_store = tt; fresh = tt }
 
 end_settled : (catalog : List Table) (ss : List Statement) → Settled catalog (end_of catalog ss).tables (end_of catalog ss).order (end_of catalog ss).records
 end_settled catalog ss =
@@ -132,6 +134,10 @@ each_explained : (catalog : List Table) (opening : Tables) (order : List Commit)
 each_explained catalog opening order k [] h = tt
 each_explained catalog opening order k (r ∷ records) h = (h.0.explained, each_explained catalog opening order k records h.1)
 
+each_placed : (order : List Commit) (records : List Record) → EachAt (ReadsAt order) (map (place_of order) records) records
+each_placed order [] = tt
+each_placed order (r ∷ records) = (refl, each_placed order records)
+
 each_wins : (catalog : List Table) (opening : Tables) (order : List Commit) (k : ℕ) (records : List Record) → AllByRecursion (Holds catalog opening order k) records
     → EachAt (WinsFirst catalog opening order) (map (place_of order) records) records
 each_wins catalog opening order k [] h = tt
@@ -141,7 +147,11 @@ settled_database : (catalog : List Table) (tables : Tables) (order : List Commit
     → OneDatabase catalog (opening_of catalog) order (map (place_of order) records) records
 settled_database catalog tables order records settled = record {
   explained = each_explained catalog (opening_of catalog) order (length records) records settled.each;
-  listed = settled.listed;
+  placed = each_placed order records;
+  listed = subst (λ cs. IsPermutation cs order) settled.listed (IsPermutation-refl order);
+  unlike = settled.unlike;
+  by_mem = settled.by_mem;
+  by_store = settled.by_store;
   first_wins = each_wins catalog (opening_of catalog) order (length records) records settled.each;
   fresh = settled.fresh;
 }

@@ -11,8 +11,9 @@ use Rattle.sk_model.specs.declared.commit.Write.{Write}
 use Rattle.sk_model.specs.declared.commit.Commit.{Commit}
 use Rattle.sk_model.specs.declared.record.Record.{Record}
 use Rattle.sk_model.specs.Database.{Tables, state, net}
-use Rattle.sk_model.specs.Records.{Told, written, Explained, FirstWins, AtMost, WinsFirst, Fresh, same_label, own_place, all_commits, commits_of, committed_as}
-use Rattle.sk_weave.specs.Weave.{is_wanted, place}
+use Rattle.sk_model.specs.Records.{Told, written, Explained, FirstWins, AtMost, WinsFirst, Fresh, same_label, own_place, all_commits, commits_of, committed_as, Unlike, InTurn}
+use Rattle.sk_model.specs.Places.{is_wanted, place}
+use Rattle.sk_model.specs.Numbers.{Rises}
 use Rattle.sk_model.proofs.Lists.{each_weaker}
 use Rattle.sk_model.proofs.Lookups.{Sorted}
 use Rattle.sk_plain.specs.Standing.{opening_of, mem_count, store_count}
@@ -39,6 +40,9 @@ pub record Settled (catalog : List Table) (tables : Tables) (order : List Commit
   pub labels : AllByRecursion (λ c. c.label.k ≤ length records) order
   pub each : AllByRecursion (Holds catalog (opening_of catalog) order (length records)) records
   pub listed : order ≡ all_commits catalog (opening_of catalog) order (map (place_of order) records) records
+  pub unlike : Unlike order
+  pub by_mem : InTurn (λ c. c.mem) order
+  pub by_store : InTurn (λ c. c.store) order
   pub fresh : Fresh records
 
 -- the commits have numbers past those of the list, and this label
@@ -46,6 +50,9 @@ pub record Adds (catalog : List Table) (order : List Commit) (label : Label) (cs
   pub unwanted : (m s : Option ℕ) → AtMost m (mem_count order) → AtMost s (store_count order) → list_any (is_wanted m s) cs ≡ false
   pub labels : AllByRecursion (λ c. c.label ≡ label) cs
   pub numbered : AllByRecursion (Numbered catalog (mem_count (order ++ cs)) (store_count (order ++ cs))) cs
+  pub unlike : Unlike cs
+  pub by_mem : Rises (λ (c : Commit). c.mem) (mem_count order) (filter (λ c. is_some c.mem) cs)
+  pub by_store : Rises (λ (c : Commit). c.store) (store_count order) (filter (λ c. is_some c.store) cs)
 
 pub mem_count_append : (order cs : List Commit) → mem_count (order ++ cs) ≡ mem_count order + mem_count cs
 mem_count_append order cs = ap length (filter-append (λ c. is_some c.mem) order cs) ∙ length-append (filter (λ c. is_some c.mem) order) (filter (λ c. is_some c.mem) cs)

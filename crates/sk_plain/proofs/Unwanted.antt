@@ -9,7 +9,7 @@ use Rattle.sk_model.specs.declared.commit.Write.{Write}
 use Rattle.sk_model.specs.declared.commit.Commit.{Commit}
 use Rattle.sk_model.specs.Database.{hits}
 use Rattle.sk_model.specs.Records.{AtMost, clashes}
-use Rattle.sk_weave.specs.Weave.{upto, is_wanted, place}
+use Rattle.sk_model.specs.Places.{upto, is_wanted, place}
 use Rattle.sk_model.proofs.Lists.{each_both, each_end, each_weaker}
 use Rattle.sk_weave.proofs.Alone.{Ends, ends}
 use Rattle.sk_plain.specs.Standing.{is_stored}

@@ -206,8 +206,12 @@ commits catalog desk live = no_live (commit catalog desk (hear live statement.Co
 abbrev pub gives_up : Kept → KeptLive → Turn
 gives_up desk live = no_live (give_up desk (hear live statement.Rollback reply.RolledBack)) reply.RolledBack
 
+-- the reply stands in no record, and the transaction goes on
+abbrev pub still_live : Kept → KeptLive → Reply → Turn
+still_live desk live r = record { desk = desk; live = Some live; reply = r }
+
 abbrev pub says_inside : List Table → Kept → KeptLive → Statement → Turn
-says_inside catalog desk live (statement.Begin begun) = told desk live (statement.Begin begun) (reply.Refused err.InTransaction)
+says_inside catalog desk live (statement.Begin begun) = still_live desk live (reply.Refused err.InTransaction)
 says_inside catalog desk live statement.Commit = commits catalog desk live
 says_inside catalog desk live statement.Rollback = gives_up desk live
 says_inside catalog desk live s = inside catalog desk live s (named catalog s)

@@ -14,7 +14,7 @@ use Rattle.sk_model.specs.Database.{Tables, table_of}
 use Rattle.sk_model.specs.Names.{table_at, columns_at}
 use Rattle.sk_model.specs.Reads.{rows_read}
 use Rattle.sk_model.specs.Replies.{Answer, comes_to, key_read, refusal_in}
-use Rattle.sk_weave.specs.Weave.{place}
+use Rattle.sk_model.specs.Places.{place}
 use Rattle.sk_plain.specs.declared.played.Played.{Played}
 use Rattle.sk_plain.specs.Standing.{Live, Standing, nothing_yet, is_stored, next_label, kind_of, started, may_use, selected, heard, answered, with_live, committed, given_up}
 
@@ -95,9 +95,9 @@ says_outside catalog st statement.Commit = turned_down st err.NoTransaction
 says_outside catalog st statement.Rollback = turned_down st err.NoTransaction
 says_outside catalog st s = outside catalog st s (named catalog s)
 
--- a statement of the live transaction
+-- a statement of the live transaction; another BEGIN is refused for where the session stands, and does not stand in the record
 abbrev pub says_inside : List Table → Standing → Live → Statement → Turn
-says_inside catalog st live (statement.Begin begun) = told st live (statement.Begin begun) (reply.Refused err.InTransaction)
+says_inside catalog st live (statement.Begin begun) = (with_live st live, reply.Refused err.InTransaction)
 says_inside catalog st live statement.Commit = (committed catalog st (heard live statement.Commit reply.Committed), reply.Committed)
 says_inside catalog st live statement.Rollback = (given_up st (heard live statement.Rollback reply.RolledBack), reply.RolledBack)
 says_inside catalog st live s = inside catalog st live s (named catalog s)

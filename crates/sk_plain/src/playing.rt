@@ -2,6 +2,7 @@
 
 ghost use Rattle.std.specs.Prelude.{◌≡◌, None, IfOk, map};
 ghost use Rattle.sk_model.specs.Records.{OneDatabase};
+ghost use Rattle.sk_model.specs.Spoken.{Spoken, spoke};
 ghost use Rattle.sk_plain.specs.Maps.{shown};
 ghost use Rattle.sk_plain.specs.Playing as spec;
 ghost use Rattle.sk_plain.specs.Session.{played_of};
@@ -128,6 +129,9 @@ pub fn play(alloc: Global, catalog: &Catalog, statements: StatementList) -> Resu
 
     // The records are those of one database with the list of commits.
     ensures one { IfOk result (λ p. OneDatabase catalog.now (opening_of catalog.now) p.order p.places p.records) }
+
+    // The replies are what the records say, but for those to statements that used no label.
+    ensures spoken { IfOk result (λ p. Spoken (spoke (map (λ s. 1) statements) statements p.replies) p.records) }
 {
     let (desk, replies) = play_to_end(alloc, catalog, statements.into_vec())?;
     Ok(handed_out(desk, replies))

@@ -27,11 +27,7 @@ fn told(
     ensures { IfOk result (λ t. t ≡ spec.told desk live statement reply) }
 {
     let live = hear(alloc, live, statement, &reply)?;
-    Ok(Turn {
-        desk,
-        live: Some(live),
-        reply,
-    })
+    Ok(still_live(desk, live, reply))
 }
 
 /// The statement was answered this by the database.
@@ -125,6 +121,17 @@ fn inside(
     match table_named(catalog, &statement) {
         None => told(alloc, desk, live, statement, Reply::Refused(ErrWord::Table)),
         Some((number, table)) => inside_at(alloc, desk, live, statement, number, table),
+    }
+}
+
+/// The reply stands in no record, and the transaction goes on.
+fn still_live(desk: Desk, live: Live, reply: Reply) -> Turn
+    ensures { result ≡ spec.still_live desk live reply }
+{
+    Turn {
+        desk,
+        live: Some(live),
+        reply,
     }
 }
 
@@ -278,9 +285,9 @@ fn says_inside(
     ensures { IfOk result (λ t. t ≡ spec.says_inside catalog.now desk live statement) }
 {
     match statement {
-        Statement::Begin(begun) => {
+        Statement::Begin(_) => {
             let reply = Reply::Refused(ErrWord::InTransaction);
-            told(alloc, desk, live, Statement::Begin(begun), reply)
+            Ok(still_live(desk, live, reply))
         }
         Statement::Commit => commits(alloc, catalog, desk, live),
         Statement::Rollback => gives_up(alloc, desk, live),

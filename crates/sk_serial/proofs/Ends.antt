@@ -1,20 +1,20 @@
 -- What a run answers, from how it ended.
-use Rattle.std.proofs.Common.{◌≡◌, ℕ, List, true, false, Ok, Err, IsErrOf, Option, refl, ap, subst, ◌∙◌, ⊎_elim}
+use Rattle.std.proofs.Common.{◌≡◌, ℕ, List, true, false, Ok, Err, IsErrOf, Option, refl, sym, ap, subst, ◌∙◌, ⊎_elim}
 use Rattle.std.specs.Io.KnownBytes.{Appends}
 use Rattle.std.specs.String.{string_bytes}
 use Rattle.sk_outside.specs.Causes.{Rose}
 use Rattle.sk_outside.specs.Pieces.{AppendsFront}
 use Rattle.sk_model.specs.declared.outcome.Outcome.{Outcome}
 use Rattle.sk_model.specs.Records.{OneDatabase}
+use Rattle.sk_model.specs.Spoken.{Spoken}
 use Rattle.sk_plain.specs.Standing.{opening_of}
 use Rattle.sk_plain.specs.declared.played.Played.{Played}
-use Rattle.sk_plain.proofs.Promise.{one_database}
 use Rattle.sk_script.specs.declared.script.Script.{Script}
 use Rattle.sk_script.specs.Text.{script_fault_text}
 use Rattle.sk_serial.specs.declared.playing.Shown.{Shown}
 use Rattle.sk_serial.specs.declared.stop.Stop.{Stop}
 use Rattle.sk_serial.specs.declared.stop.Stop.TheVariants as stop
-use Rattle.sk_serial.specs.Played.{run_of, statements_in, tables_in}
+use Rattle.sk_serial.specs.Played.{lines_with, run_of, tables_in}
 use Rattle.sk_serial.specs.Running.{Ran, IsPrinted, IsStopped, IsNothing, IsFinished, HasRun, Departs, Found, usage_text, read_text, memory_text}
 
 module _ (left left_now written written_now : Option (List ℕ)) (reads reads_now writes writes_now : ℕ) (outcome : Outcome) where
@@ -102,17 +102,14 @@ module _ (left left_now written written_now : Option (List ℕ)) (reads reads_no
   stopped_ran stop.Read printed nothing found read = read_ran (read refl) printed nothing
   stopped_ran stop.NoMemory printed nothing found read = memory_ran printed nothing
 
-  -- the run of one session is one of one database
-  handed_out : (script : Script) → outcome.records ≡ (run_of script).records → outcome.order ≡ (run_of script).order → outcome.prefixes ≡ (run_of script).places
-      → OneDatabase (tables_in script) (opening_of (tables_in script)) outcome.order outcome.prefixes outcome.records
-  handed_out script records order prefixes = rw (records, order, prefixes) (one_database (tables_in script) (statements_in script))
-
   pub finished_ran : (shown : Shown) → IsFinished shown outcome written written_now writes writes_now → Found left left_now (Ok shown) → Ran true left left_now written written_now reads reads_now writes writes_now outcome
   finished_ran shown finished (script, reads_script, is) =
-      let records : outcome.records ≡ (run_of script).records = finished.records ∙ ap (λ (p : Played). p.records) is.0 in
-      let order : outcome.order ≡ (run_of script).order = finished.order ∙ ap (λ (p : Played). p.order) is.0 in
-      let prefixes : outcome.prefixes ≡ (run_of script).places = finished.prefixes ∙ ap (λ (p : Played). p.places) is.0 in
-      let one = handed_out script records order prefixes in
+      let records : outcome.records ≡ (run_of script).records = finished.records ∙ ap (λ (p : Played). p.records) is.played in
+      let order : outcome.order ≡ (run_of script).order = finished.order ∙ ap (λ (p : Played). p.order) is.played in
+      let prefixes : outcome.prefixes ≡ (run_of script).places = finished.prefixes ∙ ap (λ (p : Played). p.places) is.played in
+      let one : OneDatabase (tables_in script) (opening_of (tables_in script)) outcome.order outcome.prefixes outcome.records = rw (finished.records, finished.order, finished.prefixes) is.one in
+      let spoken : Spoken (lines_with script (run_of script).replies) outcome.records =
+      subst (λ rs. Spoken (lines_with script (run_of script).replies) rs) (sym finished.records) (subst (λ (p : Played). Spoken (lines_with script p.replies) shown.played.records) is.played is.spoken) in
       ⊎_elim
       (λ (w : (outcome.status ≡ 0) × Appends written written_now (string_bytes shown.text)).
       whole_ran w.0 (record {
@@ -122,7 +119,8 @@ module _ (left left_now written written_now : Option (List ℕ)) (reads reads_no
         order = order;
         prefixes = prefixes;
         one = one;
-        whole = λ _. subst (Appends written written_now) is.1 w.1;
+        spoken = spoken;
+        whole = λ _. subst (Appends written written_now) is.text w.1;
         part = λ e. absurd (let f = w.0 in cc);
       }))
       (λ (w : (outcome.status ≡ 5) × AppendsFront written written_now (string_bytes shown.text) × Rose writes writes_now).
@@ -133,7 +131,8 @@ module _ (left left_now written written_now : Option (List ℕ)) (reads reads_no
         order = order;
         prefixes = prefixes;
         one = one;
+        spoken = spoken;
         whole = λ e. absurd (let f = w.0 in cc);
-        part = λ _. subst (AppendsFront written written_now) is.1 w.1;
+        part = λ _. subst (AppendsFront written written_now) is.text w.1;
       }) w.2)
       finished.printed

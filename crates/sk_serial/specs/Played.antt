@@ -3,6 +3,8 @@ use Rattle.std.specs.Prelude.{ℕ, List, ◌++◌, map}
 use Rattle.std.specs.List.{zip}
 use Rattle.sk_rows.specs.declared.table.Table.{Table}
 use Rattle.sk_rows.specs.declared.statement.Statement.{Statement}
+use Rattle.sk_model.specs.declared.reply.Reply.{Reply}
+use Rattle.sk_model.specs.Spoken.{Spoke, spoke}
 use Rattle.sk_plain.specs.declared.played.Played.{Played}
 use Rattle.sk_plain.specs.Session.{played_of}
 use Rattle.sk_script.specs.declared.script.Line.{Line}
@@ -27,6 +29,10 @@ statements_in script = map (λ l. statement_in l.what) script.lines
 -- the session of each line
 abbrev pub sessions_in : Script → List ℕ
 sessions_in script = map (λ l. session_in l.what) script.lines
+
+-- the lines of a script, with what was printed for each; their one session is the first
+abbrev pub lines_with : Script → List Reply → List Spoke
+lines_with script replies = spoke (map (λ s. 1) (statements_in script)) (statements_in script) replies
 
 -- the run of a script
 abbrev pub run_of : Script → Played

@@ -7,6 +7,7 @@ use Rattle.sk_outside.specs.Causes.{Rose}
 use Rattle.sk_outside.specs.Pieces.{AppendsFront}
 use Rattle.sk_model.specs.declared.outcome.Outcome.{Outcome}
 use Rattle.sk_model.specs.Records.{OneDatabase}
+use Rattle.sk_model.specs.Spoken.{Spoken}
 use Rattle.sk_plain.specs.Standing.{opening_of}
 use Rattle.sk_script.specs.declared.script.Script.{Script}
 use Rattle.sk_script.specs.declared.script.ScriptFault.TheVariants as fault
@@ -15,7 +16,7 @@ use Rattle.sk_script.specs.Text.{script_fault_text}
 use Rattle.sk_serial.specs.declared.playing.Shown.{Shown}
 use Rattle.sk_serial.specs.declared.stop.Stop.{Stop}
 use Rattle.sk_serial.specs.declared.stop.Stop.TheVariants as stop
-use Rattle.sk_serial.specs.Played.{run_of, tables_in, text_of}
+use Rattle.sk_serial.specs.Played.{lines_with, run_of, tables_in, text_of}
 
 -- the bytes were read: to the end of the source, or through byte 16,777,217
 pub record IsRead (old new : Option (List ℕ)) (bytes : List ℕ) : Type 0 where
@@ -50,9 +51,12 @@ ReadAs bytes (Err (stop.Script line place)) = script_of bytes ≡ Err (fault.At 
 ReadAs bytes (Err stop.Read) = ⊥
 ReadAs bytes (Err stop.NoMemory) = Unit {0}
 
--- the run of a script, with its text
-abbrev pub IsShown : Script → Shown → Type 0
-IsShown script shown = (shown.played ≡ run_of script) × (string_bytes shown.text ≡ text_of script)
+-- the run of a script, with its text: it is of one database, and what each line was answered is what the records say
+pub record IsShown (script : Script) (shown : Shown) : Type 0 where
+  pub played : shown.played ≡ run_of script
+  pub text : string_bytes shown.text ≡ text_of script
+  pub one : OneDatabase (tables_in script) (opening_of (tables_in script)) shown.played.order shown.played.places shown.played.records
+  pub spoken : Spoken (lines_with script shown.played.replies) shown.played.records
 
 -- what became of bytes: a script that was played, or its first fault
 abbrev pub PlayedOf : List ℕ → Result Shown Stop → Type 0
@@ -121,7 +125,7 @@ pub record IsScriptFault (left left_now old new : Option (List ℕ)) (before now
   pub printed : Prints old new before now (script_fault_text line place)
 
 -- A script was read, and the outcome is its run: each reply by the rules, in the printed text; the records, the list of commits
--- and the prefixes of the records; and these are of one database.
+-- and the prefixes of the records. These are of one database, and what is printed for each line is what its record says.
 pub record HasRun (left left_now written written_now : Option (List ℕ)) (outcome : Outcome) : Type 0 where
   pub script : Script
   pub reads : Reads left left_now script
@@ -129,6 +133,7 @@ pub record HasRun (left left_now written written_now : Option (List ℕ)) (outco
   pub order : outcome.order ≡ (run_of script).order
   pub prefixes : outcome.prefixes ≡ (run_of script).places
   pub one : OneDatabase (tables_in script) (opening_of (tables_in script)) outcome.order outcome.prefixes outcome.records
+  pub spoken : Spoken (lines_with script (run_of script).replies) outcome.records
   pub whole : outcome.status ≡ 0 → Appends written written_now (text_of script)
   pub part : outcome.status ≡ 5 → AppendsFront written written_now (text_of script)
 

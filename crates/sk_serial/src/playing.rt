@@ -3,7 +3,10 @@
 ghost use Rattle.std.specs.Prelude.{◌≡◌, ◌∷◌, ◌++◌, [], map, IfOk, None, OnOk};
 ghost use Rattle.std.specs.List.{zip};
 ghost use Rattle.std.specs.String.{string_bytes};
+ghost use Rattle.sk_model.specs.Records.{OneDatabase};
+ghost use Rattle.sk_model.specs.Spoken.{Spoken, spoke};
 ghost use Rattle.sk_plain.specs.Session.{played_of};
+ghost use Rattle.sk_plain.specs.Standing.{opening_of};
 ghost use Rattle.sk_rows.specs.Catalog.{add_fault};
 ghost use Rattle.sk_script.specs.Tables.{CanAdd};
 ghost use Rattle.sk_script.specs.Text.{replies_text};
@@ -107,6 +110,8 @@ fn run_text(alloc: Global, sessions: &[u16], played: &Played) -> Result<String, 
 fn play_parts(alloc: Global, catalog: &Catalog, parts: Parts) -> Result<Shown, NoMemory>
     ensures played { IfOk result (λ shown. shown.played ≡ played_of catalog.now parts.statements.items) }
     ensures text { IfOk result (λ shown. string_bytes shown.text ≡ spec.run_text parts.sessions.items (played_of catalog.now parts.statements.items)) }
+    ensures one { IfOk result (λ shown. OneDatabase catalog.now (opening_of catalog.now) shown.played.order shown.played.places shown.played.records) }
+    ensures spoken { IfOk result (λ shown. Spoken (spoke (map (λ s. 1) parts.statements.items) parts.statements.items shown.played.replies) shown.played.records) }
 {
     let Parts {
         sessions,

@@ -161,6 +161,7 @@ fn finish<K: Sink>(shown: Shown, sink: &mut K) -> Outcome
 
 fn run<S: Source, K: Sink>(alloc: Global, words: &[String], source: &mut S, sink: &mut K) -> Outcome
     ensures ran { spec.Ran (is_some (place_of (map string_bytes words.now))) (S.left source.old) (S.left source.new) (K.written sink.old) (K.written sink.new) (S.faults source.old) (S.faults source.new) (K.faults sink.old) (K.faults sink.new) result }
+    ensures untouched { is_some (place_of (map string_bytes words.now)) ≡ false → source.new ≡ source.old }
     ensures within { ConsumesAtMost 16777217 (S.left source.old) (S.left source.new) }
 {
     if place(words).is_none() {
@@ -188,6 +189,9 @@ pub fn run_script<S: Source, K: Sink>(
     ensures status { spec.is_status result.status ≡ true }
     ensures usage { (result.status ≡ 2) ↔ (is_some (place_of (map string_bytes words.now)) ≡ false) }
 
+    // With these words nothing is asked of the source.
+    ensures untouched { result.status ≡ 2 → source.new ≡ source.old }
+
     // A script that departs from the grammar is refused at its first fault.
     ensures script { result.status ≡ 3 → spec.IsScriptFault (S.left source.old) (S.left source.new) (K.written sink.old) (K.written sink.new) (K.faults sink.old) (K.faults sink.new) }
 
@@ -200,8 +204,8 @@ pub fn run_script<S: Source, K: Sink>(
     ensures memory { result.status ≡ 8 → spec.Prints (K.written sink.old) (K.written sink.new) (K.faults sink.old) (K.faults sink.new) spec.memory_text }
     ensures nothing { spec.is_fault result.status ≡ true → spec.IsNothing result }
 
-    // The script was read and is played, as one database with its list of commits; with status 0 all of its text is printed, with
-    // status 5 a front of it.
+    // The script was read and is played, as one database with its list of commits, and what is printed for its lines is what the
+    // records say; with status 0 all of its text is printed, with status 5 a front of it.
     ensures played { spec.is_fault result.status ≡ false → spec.HasRun (S.left source.old) (S.left source.new) (K.written sink.old) (K.written sink.new) result }
 
     // At most so many bytes are taken, whatever it answers.
