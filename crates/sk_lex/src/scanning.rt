@@ -1,6 +1,7 @@
 //! A line as tokens.
 
 ghost use Rattle.std.specs.Prelude.{◌≡◌, ◌<◌, ◌^◌, length, All, IfOk};
+ghost use Rattle.sk_rows.specs.Memory.{Gives};
 ghost use Rattle.sk_lex.specs.Scanning as spec;
 ghost use Rattle.sk_lex.specs.Spans.{AreCut, IsBlank, end_of, reach, slice};
 
