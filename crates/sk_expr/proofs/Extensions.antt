@@ -7,7 +7,8 @@ use Rattle.sk_rows.specs.declared.table.Column.{Column}
 use Rattle.sk_rows.specs.declared.statement.SetItem.{SetItem}
 use Rattle.sk_rows.specs.declared.faults.ValueFault.{ValueFault}
 use Rattle.sk_rows.specs.declared.faults.ValueFault.TheVariants.{Overflow, NoMemory}
-use Rattle.sk_rows.specs.Evaluation.{◌>>=◌, Gives}
+use Rattle.sk_rows.specs.Memory.{Gives}
+use Rattle.sk_rows.specs.Evaluation.{◌>>=◌, wants_memory}
 use Rattle.sk_model.specs.Database.{RowOf}
 use Rattle.sk_model.specs.Changes.{new_value, new_values}
 use Rattle.sk_expr.specs.Extended.{extended, Extends}
@@ -49,13 +50,13 @@ value_on columns row sets (d ∷ ds) cs (w ∷ ws) vs c v set new out pushed las
 -- a value that cannot be made
 pub value_ends : {X : Type 0} (columns : List Column) (row : RowOf) (sets : List SetItem) (of : List Column) (olds : List Value) (c : Column) (v : Value) (set : Option SetItem) (f : ValueFault) (out : List Value) (r : Result X ValueFault)
     → 1 ≤ length of → 1 ≤ length olds → c ≡ get_or of 0 c → v ≡ get_or olds 0 v → set ≡ find (λ s. bytes_eq s.column c.name) sets
-    → Gives (Err f) (new_value columns row set v) → IsErr r × IsErrAnd r (λ e. e ≡ f) → Extends r out out (new_values columns row sets of olds)
+    → Gives wants_memory (Err f) (new_value columns row set v) → IsErr r × IsErrAnd r (λ e. e ≡ f) → Extends r out out (new_values columns row sets of olds)
 value_ends columns row sets [] olds c v set f out r some_of some_olds is_c is_v is_set gives is = absurd (omega arith)
 value_ends columns row sets (d ∷ ds) [] c v set f out r some_of some_olds is_c is_v is_set gives is = absurd (omega arith)
 value_ends columns row sets (d ∷ ds) (w ∷ ws) c v set f out (Ok u) some_of some_olds is_c is_v is_set gives is = absurd (cc is.0)
 value_ends columns row sets (d ∷ ds) (w ∷ ws) c v set f out (Err NoMemory) some_of some_olds is_c is_v is_set gives is = tt
 value_ends columns row sets (d ∷ ds) (w ∷ ws) c v set f out (Err Overflow) some_of some_olds is_c is_v is_set gives is =
-    let P : ValueFault → Type 0 = λ g. Gives (Err g) (new_value columns row set v) in
+    let P : ValueFault → Type 0 = λ g. Gives wants_memory (Err g) (new_value columns row set v) in
     let over : new_value columns row set v ≡ Err Overflow = subst P (sym is.1) gives in
     let meant : new_value columns row (find (λ s. bytes_eq s.column d.name) sets) w ≡ Err Overflow = rw (← is_c, ← is_v, ← is_set) over in
     rw meant refl

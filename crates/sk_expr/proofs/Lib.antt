@@ -1,6 +1,11 @@
 pub mod Checked
 pub mod Extensions
+pub mod Names
+pub mod Operations
 pub mod Placing
+pub mod Sides
 pub mod Sound
+pub mod Taking
 pub mod Tables
 pub mod Telling
+pub mod Typed

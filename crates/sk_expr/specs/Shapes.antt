@@ -8,3 +8,8 @@ shape_seen (seen.Name name) = Name name.now
 shape_seen (seen.Literal value) = Literal value.now
 shape_seen (seen.Equation name value) = Equation name.now value.now
 shape_seen seen.Other = Other
+
+-- as a side of an operator an equation is neither a name nor a literal
+abbrev pub side : Shape → Shape
+side (Equation name v) = Other
+side s = s

@@ -2,7 +2,8 @@
 
 ghost use Rattle.std.specs.Prelude.{◌≡◌, ◌∷◌, [], map, IfOk};
 ghost use Rattle.std.specs.List.{list_all};
-ghost use Rattle.sk_rows.specs.Evaluation.{Gives};
+ghost use Rattle.sk_rows.specs.Memory.{Gives};
+ghost use Rattle.sk_rows.specs.Evaluation.{wants_memory};
 ghost use Rattle.sk_expr.specs.Changed.{rows_changed};
 ghost use Rattle.sk_model.specs.declared.reply.Reply.TheVariants.{Count};
 ghost use Rattle.sk_model.specs.Reads.{rows_met as rows_met_spec};
@@ -37,44 +38,44 @@ fn count(n: usize) -> Result<Reply, NoMemory>
     Ok(Reply::Count(n as u32))
 }
 
-fn row_put(alloc: Global, table: u16, key: &Value, row: &Row) -> Result<Write, NoMemory>
-    ensures { IfOk result (λ write. write ≡ spec.row_put table (key.now, row.now)) }
+fn row_put(table: u16, row: (Value, Row)) -> Write
+    ensures { result ≡ spec.row_put table row }
 {
-    Ok(Write {
+    Write {
         table,
-        key: key.copy(alloc)?,
-        row: Some(row.copy(alloc)?),
-    })
+        key: row.0,
+        row: Some(row.1),
+    }
 }
 
-fn row_gone(alloc: Global, table: u16, row: &(Value, Row)) -> Result<Write, NoMemory>
-    ensures { IfOk result (λ write. write ≡ spec.row_gone table row.now) }
+fn row_gone(table: u16, row: (Value, Row)) -> Write
+    ensures { result ≡ spec.row_gone table row }
 {
-    Ok(Write {
+    Write {
         table,
-        key: row.0.copy(alloc)?,
+        key: row.0,
         row: None,
-    })
+    }
 }
 
-fn all_put(alloc: Global, table: u16, rows: &[(Value, Row)]) -> Result<WriteList, NoMemory>
-    ensures { IfOk result (λ writes. writes ≡ map (spec.row_put table) rows.now) }
+fn all_put(alloc: Global, table: u16, rows: KeyedRows) -> Result<WriteList, NoMemory>
+    ensures { IfOk result (λ writes. writes ≡ map (spec.row_put table) rows) }
 {
-    let mut writes = WriteList::new(alloc);
-    for row in rows {
-        writes.push(row_put(alloc, table, &row.0, &row.1)?)?;
+    let mut writes = Vec::with_capacity(alloc, rows.len())?;
+    for row in rows.into_vec() {
+        writes.push(row_put(table, row))?;
     }
-    Ok(writes)
+    Ok(WriteList::from_vec(writes))
 }
 
-fn all_gone(alloc: Global, table: u16, rows: &[(Value, Row)]) -> Result<WriteList, NoMemory>
-    ensures { IfOk result (λ writes. writes ≡ map (spec.row_gone table) rows.now) }
+fn all_gone(alloc: Global, table: u16, rows: KeyedRows) -> Result<WriteList, NoMemory>
+    ensures { IfOk result (λ writes. writes ≡ map (spec.row_gone table) rows) }
 {
-    let mut writes = WriteList::new(alloc);
-    for row in rows {
-        writes.push(row_gone(alloc, table, row)?)?;
+    let mut writes = Vec::with_capacity(alloc, rows.len())?;
+    for row in rows.into_vec() {
+        writes.push(row_gone(table, row))?;
     }
-    Ok(writes)
+    Ok(WriteList::from_vec(writes))
 }
 
 fn all_have_room(rows: &[(Value, Row)]) -> bool
@@ -87,9 +88,7 @@ fn values_put(alloc: Global, table: u16, values: &Row) -> Result<WriteList, NoMe
     ensures { IfOk result (λ writes. writes ≡ spec.row_put table (spec.key_of values.now, values.now) ∷ []) }
 {
     let key = key_of(alloc, values.as_slice())?;
-    let mut writes = WriteList::new(alloc);
-    writes.push(row_put(alloc, table, &key, values)?)?;
-    Ok(writes)
+    WriteList::of_one(alloc, row_put(table, (key, values.copy(alloc)?)))
 }
 
 /// INSERT of these values, where these rows of its key were found.
@@ -118,15 +117,15 @@ fn shown(
     columns: &[Column],
     names: &Option<NameList>,
     cond: &Option<Expr>,
-    rows: &[(Value, Row)],
+    rows: KeyedRows,
 ) -> Result<Answer, NoMemory>
-    ensures { IfOk result (λ a. a ≡ spec.shown columns.now names.now (rows_met_spec columns.now cond.now rows.now)) }
+    ensures { IfOk result (λ a. a ≡ spec.shown columns.now names.now (rows_met_spec columns.now cond.now rows)) }
 {
     match rows_met(alloc, columns, cond, rows) {
         Err(ValueFault::NoMemory) => Err(NoMemory),
         Err(ValueFault::Overflow) => Ok(refused(alloc, ErrWord::Overflow)),
         Ok(met) => {
-            let picked = all_picked(alloc, columns, names, met.as_slice())?;
+            let picked = all_picked(alloc, columns, names, met)?;
             Ok((Reply::Rows(picked), WriteList::new(alloc)))
         }
     }
@@ -138,9 +137,9 @@ fn changed(
     columns: &[Column],
     sets: &[SetItem],
     cond: &Option<Expr>,
-    rows: &[(Value, Row)],
+    rows: KeyedRows,
 ) -> Result<KeyedRows, ValueFault>
-    ensures { Gives result (rows_changed columns.now sets.now cond.now rows.now) }
+    ensures { Gives wants_memory result (rows_changed columns.now sets.now cond.now rows) }
 {
     let met = rows_met(alloc, columns, cond, rows)?;
     new_rows(alloc, columns, sets, met.as_slice())
@@ -153,9 +152,9 @@ fn updated(
     table: u16,
     sets: &[SetItem],
     cond: &Option<Expr>,
-    rows: &[(Value, Row)],
+    rows: KeyedRows,
 ) -> Result<Answer, NoMemory>
-    ensures { IfOk result (λ a. a ≡ spec.updated table (rows_changed columns.now sets.now cond.now rows.now)) }
+    ensures { IfOk result (λ a. a ≡ spec.updated table (rows_changed columns.now sets.now cond.now rows)) }
 {
     match changed(alloc, columns, sets, cond, rows) {
         Err(ValueFault::NoMemory) => Err(NoMemory),
@@ -164,8 +163,8 @@ fn updated(
             if !all_have_room(new.as_slice()) {
                 return Ok(refused(alloc, ErrWord::Size));
             }
-            let writes = all_put(alloc, table, new.as_slice())?;
-            Ok((count(new.len())?, writes))
+            let reply = count(new.len())?;
+            Ok((reply, all_put(alloc, table, new)?))
         }
     }
 }
@@ -176,22 +175,22 @@ fn deleted(
     columns: &[Column],
     table: u16,
     cond: &Option<Expr>,
-    rows: &[(Value, Row)],
+    rows: KeyedRows,
 ) -> Result<Answer, NoMemory>
-    ensures { IfOk result (λ a. a ≡ spec.deleted table (rows_met_spec columns.now cond.now rows.now)) }
+    ensures { IfOk result (λ a. a ≡ spec.deleted table (rows_met_spec columns.now cond.now rows)) }
 {
     match rows_met(alloc, columns, cond, rows) {
         Err(ValueFault::NoMemory) => Err(NoMemory),
         Err(ValueFault::Overflow) => Ok(refused(alloc, ErrWord::Overflow)),
         Ok(met) => {
-            let writes = all_gone(alloc, table, met.as_slice())?;
-            Ok((count(met.len())?, writes))
+            let reply = count(met.len())?;
+            Ok((reply, all_gone(alloc, table, met)?))
         }
     }
 }
 
 /// What a statement that is not refused comes to, over the rows that it read of its table, whose number is `number`: a
-/// reply, and the writes that come with it. BEGIN, COMMIT and ROLLBACK, which no table answers, come to a refusal.
+/// reply, and the writes that come with it. The rows that it answers are those that it got, and no copies. BEGIN, COMMIT and ROLLBACK, which no table answers, come to a refusal.
 ///
 /// # Errors
 ///
@@ -201,16 +200,16 @@ pub fn comes_to(
     table: &Table,
     number: u16,
     statement: &Statement,
-    rows: &[(Value, Row)],
+    rows: KeyedRows,
 ) -> Result<(Reply, WriteList), NoMemory>
-    ensures { IfOk result (λ a. a ≡ spec.comes_to table.now.columns number statement.now rows.now) }
+    ensures { IfOk result (λ a. a ≡ spec.comes_to table.now.columns number statement.now rows) }
 {
     let columns = table.columns.as_slice();
     match statement {
         Statement::Begin(_) | Statement::Commit | Statement::Rollback => {
             Ok(refused(alloc, ErrWord::Table))
         }
-        Statement::Insert { values, .. } => inserted(alloc, number, values, rows),
+        Statement::Insert { values, .. } => inserted(alloc, number, values, rows.as_slice()),
         Statement::Select {
             columns: names,
             cond,

@@ -3,12 +3,13 @@
 ghost use Rattle.std.specs.Prelude.{◌≡◌, ◌∷◌, ◌++◌, [], find, OnOk, IfErr};
 ghost use Rattle.std.specs.Option.{option_copied};
 ghost use Rattle.std.specs.Str.{bytes_eq};
-ghost use Rattle.sk_rows.specs.Evaluation.{Gives};
+ghost use Rattle.sk_rows.specs.Memory.{Gives};
+ghost use Rattle.sk_rows.specs.Evaluation.{wants_memory};
 ghost use Rattle.sk_rows.specs.declared.faults.ValueFault.TheVariants as fault;
 ghost use Rattle.sk_model.specs.Changes as spec;
 ghost use Rattle.sk_expr.specs.Extended.{Extends};
 
-use crate::evaluation::{copied, value_over};
+use crate::evaluation::value_over;
 use sk_model::KeyedRows;
 use sk_rows::{Column, Copies, NoMemory, Row, SetItem, Txt, Value, ValueFault};
 use std::alloc::Global;
@@ -27,10 +28,10 @@ fn new_value(
     set: Option<&SetItem>,
     old: &Value,
 ) -> Result<Value, ValueFault>
-    ensures { Gives result (spec.new_value columns.now row.now (option_copied set.entry) old.now) }
+    ensures { Gives wants_memory result (spec.new_value columns.now row.now (option_copied set.entry) old.now) }
 {
     match set {
-        None => copied(alloc, old),
+        None => Ok(old.copy(alloc)?),
         Some(set) => value_over(alloc, &set.value, columns, row),
     }
 }
@@ -77,7 +78,7 @@ fn new_row(
     sets: &[SetItem],
     row: &[Value],
 ) -> Result<Row, ValueFault>
-    ensures { Gives result (spec.new_row columns.now sets.now row.now) }
+    ensures { Gives wants_memory result (spec.new_row columns.now sets.now row.now) }
 {
     let mut values = Row::new(alloc);
     put_new_values(alloc, columns, row, sets, columns, row, &mut values)?;
@@ -108,7 +109,7 @@ pub(crate) fn new_rows(
     sets: &[SetItem],
     rows: &[(Value, Row)],
 ) -> Result<KeyedRows, ValueFault>
-    ensures { Gives result (spec.new_rows columns.now sets.now rows.now) }
+    ensures { Gives wants_memory result (spec.new_rows columns.now sets.now rows.now) }
 {
     let mut out = KeyedRows::new(alloc);
     for row in rows {

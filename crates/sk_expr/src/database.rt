@@ -47,6 +47,16 @@ fn one_row(alloc: Global, key: Value, row: Option<&Row>) -> Result<KeyedRows, No
     Ok(rows)
 }
 
+fn all_rows(alloc: Global, rows: &[(Value, Row)]) -> Result<KeyedRows, NoMemory>
+    ensures { IfOk result (λ list. list ≡ rows.now) }
+{
+    let mut out = Vec::with_capacity(alloc, rows.len())?;
+    for item in rows {
+        out.push((item.0.copy(alloc)?, item.1.copy(alloc)?))?;
+    }
+    Ok(KeyedRows::from_vec(out))
+}
+
 /// What a statement that is not refused comes to, over those of these rows that it reads.
 fn read(
     alloc: Global,
@@ -58,11 +68,11 @@ fn read(
     ensures { IfOk result (λ a. a ≡ spec.comes_to table.now.columns number statement.now (rows_read rows.now (spec.key_read table.now.columns statement.now))) }
 {
     match key_read(alloc, table, statement)? {
-        None => comes_to(alloc, table, number, statement, rows),
+        None => comes_to(alloc, table, number, statement, all_rows(alloc, rows)?),
         Some(key) => {
             let row = row_at(rows, &key);
             let one = one_row(alloc, key, row)?;
-            comes_to(alloc, table, number, statement, one.as_slice())
+            comes_to(alloc, table, number, statement, one)
         }
     }
 }

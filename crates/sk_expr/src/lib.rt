@@ -16,6 +16,7 @@ mod reading;
 mod refusing;
 mod rooms;
 mod sameness;
+mod seen;
 mod shapes;
 mod states;
 mod typing;

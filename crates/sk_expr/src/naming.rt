@@ -23,14 +23,23 @@ pub(crate) fn is_key(columns: &[Column], name: &Txt) -> bool
     }
 }
 
+#[tactic(auto, using(crate::proofs::Names::known_left, crate::proofs::Names::unknown_right))]
 fn expr_known(columns: &[Column], expr: &Expr) -> bool
     ensures { result ≡ spec.expr_known columns.now expr.now }
 {
-    match expr {
-        Expr::Lit(_) => true,
-        Expr::Col(name) => has_column(name, columns),
-        Expr::Not(a) => expr_known(columns, a.get()),
-        Expr::Two(_, a, b) => expr_known(columns, a.get()) && expr_known(columns, b.get()),
+    let mut e = expr;
+    loop {
+        match e {
+            Expr::Lit(_) => return true,
+            Expr::Col(name) => return has_column(name, columns),
+            Expr::Not(a) => e = a.get(),
+            Expr::Two(_, a, b) => {
+                if !expr_known(columns, b.get()) {
+                    return false;
+                }
+                e = a.get();
+            }
+        }
     }
 }
 

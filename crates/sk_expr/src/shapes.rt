@@ -3,7 +3,7 @@
 ghost use Rattle.std.specs.Prelude.{◌≡◌};
 ghost use Rattle.std.specs.Option.{option_copied};
 ghost use Rattle.sk_model.specs.Reads as spec;
-ghost use Rattle.sk_expr.specs.Shapes.{shape_seen};
+ghost use Rattle.sk_expr.specs.Shapes.{shape_seen, side};
 
 use crate::naming::is_key;
 use sk_rows::{Column, Expr, Op, Txt, Value};
@@ -26,6 +26,20 @@ fn joined<'a>(op: Op, left: Shape<'a>, right: Shape<'a>) -> Shape<'a>
     }
 }
 
+/// A side of an operator, as far as it can make an equation: a name or a literal.
+#[tactic(auto, using(crate::proofs::Sides::other_side))]
+fn side_of(expr: &Expr) -> Shape<'_>
+    ensures { shape_seen result ≡ side (spec.shape expr.now) }
+{
+    match expr {
+        Expr::Lit(value) => Shape::Literal(value),
+        Expr::Col(name) => Shape::Name(name),
+        Expr::Not(_) => Shape::Other,
+        Expr::Two(_, _, _) => Shape::Other,
+    }
+}
+
+#[tactic(auto, using(crate::proofs::Sides::joined_sides))]
 fn shape_of(expr: &Expr) -> Shape<'_>
     ensures { shape_seen result ≡ spec.shape expr.now }
 {
@@ -33,7 +47,7 @@ fn shape_of(expr: &Expr) -> Shape<'_>
         Expr::Lit(value) => Shape::Literal(value),
         Expr::Col(name) => Shape::Name(name),
         Expr::Not(_) => Shape::Other,
-        Expr::Two(op, a, b) => joined(*op, shape_of(a.get()), shape_of(b.get())),
+        Expr::Two(op, a, b) => joined(*op, side_of(a.get()), side_of(b.get())),
     }
 }
 

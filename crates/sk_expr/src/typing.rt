@@ -4,6 +4,7 @@ ghost use Rattle.std.specs.Prelude.{◌≡◌, find};
 ghost use Rattle.std.specs.Option.{option_copied};
 ghost use Rattle.std.specs.Str.{bytes_eq};
 ghost use Rattle.sk_rows.specs.Typing.{column_sort as column_sort_of, not_sort as not_sort_of, same_sort as same_sort_of, sort_in, takes as takes_of, gives as gives_of, two_sort as two_sort_of};
+ghost use Rattle.sk_expr.specs.Typed.{left_of, negated, outcome};
 
 use sk_rows::{Column, Expr, Op, Sort, Table, Txt, TypeFault};
 
@@ -72,21 +73,82 @@ fn not_sort(s: Sort) -> Result<Sort, TypeFault>
     }
 }
 
+/// What the whole expression comes to for each sort of what is left to look at: a fault on its right is answered only
+/// where there is none further left.
+#[derive(Clone, Copy)]
+struct Outcomes {
+    int: Result<Sort, TypeFault>,
+    text: Result<Sort, TypeFault>,
+    truth: Result<Sort, TypeFault>,
+}
+
+/// Where nothing is left but the expression itself.
+const ITSELF: Outcomes = Outcomes {
+    int: Ok(Sort::Int),
+    text: Ok(Sort::Text),
+    truth: Ok(Sort::Bool),
+};
+
+impl Outcomes {
+    fn of(self, found: Result<Sort, TypeFault>) -> Result<Sort, TypeFault>
+        ensures { result ≡ outcome self found }
+    {
+        match found? {
+            Sort::Int => self.int,
+            Sort::Text => self.text,
+            Sort::Bool => self.truth,
+        }
+    }
+
+    fn left_of(self, op: Op, right: Result<Sort, TypeFault>) -> Outcomes
+        ensures { result ≡ left_of op right self }
+    {
+        match right {
+            Err(fault) => Outcomes {
+                int: Err(fault),
+                text: Err(fault),
+                truth: Err(fault),
+            },
+            Ok(t) => Outcomes {
+                int: self.of(two_sort(op, Sort::Int, t)),
+                text: self.of(two_sort(op, Sort::Text, t)),
+                truth: self.of(two_sort(op, Sort::Bool, t)),
+            },
+        }
+    }
+
+    fn negated(self) -> Outcomes
+        ensures { result ≡ negated self }
+    {
+        Outcomes {
+            int: self.of(not_sort(Sort::Int)),
+            text: self.of(not_sort(Sort::Text)),
+            truth: self.of(not_sort(Sort::Bool)),
+        }
+    }
+}
+
 /// The sort of an expression over these columns, or the first fault.
+#[tactic(auto, using(crate::proofs::Typed::left_outcome, crate::proofs::Typed::negated_outcome, crate::proofs::Typed::itself))]
 pub(crate) fn sort_over(expr: &Expr, columns: &[Column]) -> Result<Sort, TypeFault>
     ensures { result ≡ sort_in columns.now expr.now }
 {
-    match expr {
-        Expr::Lit(value) => Ok(value.sort()),
-        Expr::Col(name) => column_sort(name, columns).ok_or(TypeFault::UnknownColumn),
-        Expr::Not(a) => {
-            let s = sort_over(a.get(), columns)?;
-            not_sort(s)
-        }
-        Expr::Two(op, a, b) => {
-            let s = sort_over(a.get(), columns)?;
-            let t = sort_over(b.get(), columns)?;
-            two_sort(*op, s, t)
+    let mut e = expr;
+    let mut outcomes = ITSELF;
+    loop {
+        match e {
+            Expr::Lit(value) => return outcomes.of(Ok(value.sort())),
+            Expr::Col(name) => {
+                return outcomes.of(column_sort(name, columns).ok_or(TypeFault::UnknownColumn));
+            }
+            Expr::Not(a) => {
+                outcomes = outcomes.negated();
+                e = a.get();
+            }
+            Expr::Two(op, a, b) => {
+                outcomes = outcomes.left_of(*op, sort_over(b.get(), columns));
+                e = a.get();
+            }
         }
     }
 }

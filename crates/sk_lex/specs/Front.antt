@@ -1,5 +1,5 @@
 -- The token at the front of some bytes.
-use Rattle.std.specs.Prelude.{◌≡◌, ◌≤◌, ℕ, ◌+◌, ◌-◌, ◌*◌, ◌^◌, Bool, true, false, ◌&&◌, ◌||◌, if◌then◌else◌, ◌==◌, nat_le, nat_lt, List, [], ◌∷◌, ◌++◌, take, codes, Option, Some, None, Result, Ok, Err}
+use Rattle.std.specs.Prelude.{◌≤◌, ℕ, ◌+◌, ◌-◌, ◌*◌, ◌^◌, Bool, true, false, ◌&&◌, ◌||◌, if◌then◌else◌, ◌==◌, nat_le, nat_lt, List, [], ◌∷◌, ◌++◌, take, codes, Option, Some, None, Result, Ok, Err}
 use Rattle.std.specs.List.{prefix_len}
 use Rattle.std.specs.Str.{str_eq_ignore_ascii_case}
 use Rattle.sk_rows.specs.Text.{are_printable, is_printable}
@@ -19,12 +19,11 @@ Text = List ℕ
 abbrev pub Found : Type 0
 Found = Result (Word × ℕ) Misfit
 
--- what came back is what was meant, unless memory ran out
-abbrev pub Gives : {X : Type 0} → Result X Misfit → Result X Misfit → Type 0
-Gives (Ok x) meant = meant ≡ Ok x
-Gives (Err (misfit.Bad n)) meant = meant ≡ Err (misfit.Bad n)
-Gives (Err misfit.Open) meant = meant ≡ Err misfit.Open
-Gives (Err misfit.NoMemory) meant = Unit {0}
+-- whether the misfit is want of memory
+abbrev pub wants_memory : Misfit → Bool
+wants_memory (misfit.Bad n) = false
+wants_memory misfit.Open = false
+wants_memory misfit.NoMemory = true
 
 -- a token has some bytes, and a misfit is found in them
 abbrev pub IsWithin : {X : Type 0} → ℕ → Result (X × ℕ) Misfit → Type 0

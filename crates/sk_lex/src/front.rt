@@ -4,7 +4,8 @@ ghost use Rattle.std.specs.Prelude.{◌≡◌, ◌≤◌, ◌<◌, ◌+◌, ◌^
 ghost use Rattle.std.specs.Str.{str_eq_ignore_ascii_case};
 ghost use Rattle.sk_rows.specs.Text.{ArePrintable};
 ghost use Rattle.sk_lex.specs.Front as spec;
-ghost use Rattle.sk_lex.specs.Front.{Gives};
+ghost use Rattle.sk_rows.specs.Memory.{Gives};
+ghost use Rattle.sk_lex.specs.Front.{wants_memory};
 
 use crate::token::{Keyword, WORDS, Word};
 use sk_rows::{NoMemory, Txt};
@@ -114,7 +115,7 @@ fn name(alloc: Global, bytes: &[u8]) -> Result<Txt, NoMemory>
 #[tactic(auto, using(crate::proofs::Words::word_printable), unfolding(crate::specs::Front::word_at))]
 fn word_at(alloc: Global, z: &[u8]) -> Result<(Word, usize), Misfit>
     requires { spec.begins Class.Letters z.now ≡ true }
-    ensures value { Gives result (spec.word_at z.now) }
+    ensures value { Gives wants_memory result (spec.word_at z.now) }
     ensures within { spec.IsWithin (length z.now) result }
 {
     let n = run(Class::Letters, z);
@@ -147,7 +148,7 @@ fn number(mut digits: &[u8]) -> Option<u64>
 #[tactic(auto, unfolding(crate::specs::Front::number_at))]
 fn number_at(z: &[u8]) -> Result<(Word, usize), Misfit>
     requires { spec.begins Class.Digits z.now ≡ true }
-    ensures value { Gives result (spec.number_at z.now) }
+    ensures value { Gives wants_memory result (spec.number_at z.now) }
     ensures within { spec.IsWithin (length z.now) result }
 {
     let n = run(Class::Digits, z);
@@ -190,7 +191,7 @@ fn text_from(alloc: Global, mut z: &[u8]) -> Result<Option<(Vec<u8>, usize)>, No
 #[tactic(auto, unfolding(crate::specs::Front::text_at))]
 fn text_at(alloc: Global, z: &[u8]) -> Result<(Word, usize), Misfit>
     requires { length z.now < 2 ^ 63 }
-    ensures value { Gives result (spec.text_at z.now) }
+    ensures value { Gives wants_memory result (spec.text_at z.now) }
     ensures within { spec.IsWithin (length z.now) result }
 {
     let [_, rest @ ..] = z else {
@@ -232,7 +233,7 @@ fn first(z: &[u8]) -> u8
 
 #[tactic(auto, unfolding(crate::specs::Front::mark_at))]
 fn mark_at(z: &[u8]) -> Result<(Word, usize), Misfit>
-    ensures value { Gives result (spec.mark_at z.now) }
+    ensures value { Gives wants_memory result (spec.mark_at z.now) }
     ensures within { spec.IsWithin (length z.now) result }
 {
     let [b, rest @ ..] = z else {
@@ -262,7 +263,7 @@ fn begins(class: Class, z: &[u8]) -> bool
 #[tactic(auto, unfolding(crate::specs::Front::front))]
 pub fn front(alloc: Global, z: &[u8]) -> Result<(Word, usize), Misfit>
     requires { length z.now < 2 ^ 63 }
-    ensures value { Gives result (spec.front z.now) }
+    ensures value { Gives wants_memory result (spec.front z.now) }
     ensures within { spec.IsWithin (length z.now) result }
 {
     if begins(Class::Digits, z) {

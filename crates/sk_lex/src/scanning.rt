@@ -1,6 +1,7 @@
 //! A line as tokens.
 
 ghost use Rattle.std.specs.Prelude.{◌≡◌, ◌<◌, ◌^◌, length, All, IfOk};
+ghost use Rattle.sk_rows.specs.Memory.{Gives};
 ghost use Rattle.sk_lex.specs.Scanning as spec;
 ghost use Rattle.sk_lex.specs.Spans.{AreCut, IsBlank, end_of, reach, slice};
 
@@ -90,7 +91,7 @@ pub fn scan(alloc: Global, line: &[u8]) -> Result<Scanned, NoMemory>
 #[tactic(auto, unfolding(crate::specs::Scanning::tokens))]
 pub fn tokens(alloc: Global, line: &[u8]) -> Result<TokenList, LexFault>
     requires { length line.now < 2 ^ 31 }
-    ensures value { spec.Gives result (spec.tokens line.now) }
+    ensures value { Gives spec.wants_memory result (spec.tokens line.now) }
     ensures spans { IfOk result (λ ts. AreCut line.now 0 ts) }
     ensures whole { IfOk result (λ ts. IsBlank (slice line.now (end_of 0 ts) (length line.now))) }
     ensures before { IfOk result (λ ts. All (λ t. t.from < length line.now) ts) }

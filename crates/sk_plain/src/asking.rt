@@ -58,5 +58,5 @@ pub(crate) fn answer(
 {
     let key = key_read(alloc, table, statement)?;
     let rows = read(alloc, tables, number, key.as_ref())?;
-    comes_to(alloc, table, number, statement, rows.as_slice())
+    comes_to(alloc, table, number, statement, rows)
 }

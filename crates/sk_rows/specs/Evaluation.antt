@@ -1,5 +1,5 @@
 -- The value of an expression over a row.
-use Rattle.std.specs.Prelude.{◌≡◌, ℕ, ◌^◌, Bool, false, not, ◌&&◌, ◌||◌, if◌then◌else◌, nat_lt, List, position, slice_get, unwrap_or, option_and_then, Result, Ok, Err, ℤ, pos, negsuc, ◌+ℤ◌, ◌-ℤ◌, ◌*ℤ◌}
+use Rattle.std.specs.Prelude.{ℕ, ◌^◌, Bool, true, false, not, ◌&&◌, ◌||◌, if◌then◌else◌, nat_lt, List, position, slice_get, unwrap_or, option_and_then, Result, Ok, Err, ℤ, pos, negsuc, ◌+ℤ◌, ◌-ℤ◌, ◌*ℤ◌}
 use Rattle.std.specs.Str.{bytes_eq}
 use Rattle.std.specs.Ordering.{is_eq, is_ne, is_lt, is_le, is_gt, is_ge}
 use Rattle.sk_rows.specs.declared.value.Value.{Value}
@@ -19,11 +19,10 @@ abbrev pub ◌>>=◌ : {A B : Type 0} → Result A ValueFault → (A → Result 
 (Ok x) >>= f = f x
 (Err e) >>= f = Err e
 
--- What a function returned is what was meant, unless memory ran out.
-abbrev pub Gives : {X : Type 0} → Result X ValueFault → Result X ValueFault → Type 0
-Gives (Ok x) meant = meant ≡ Ok x
-Gives (Err Overflow) meant = meant ≡ Err Overflow
-Gives (Err NoMemory) meant = Unit {0}
+-- whether the fault is want of memory
+abbrev pub wants_memory : ValueFault → Bool
+wants_memory Overflow = false
+wants_memory NoMemory = true
 
 -- A value of another sort counts as 0, and as FALSE: a checked expression has none.
 abbrev pub int_of : Value → ℤ

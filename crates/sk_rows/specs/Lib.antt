@@ -4,6 +4,7 @@ pub mod Expression
 pub mod Memory
 pub mod Names
 pub mod Orders
+pub mod Spine
 pub mod Text
 pub mod Typing
 pub mod Values

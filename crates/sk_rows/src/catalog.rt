@@ -29,6 +29,17 @@ pub enum CatalogFault {
     NoMemory,
 }
 
+impl From<NoMemory> for CatalogFault {
+    ghost use Rattle.std.specs.Prelude.{◌≡◌};
+    ghost use Rattle.sk_rows.specs.declared.catalog.CatalogFault.TheVariants as fault;
+
+    ghost from_gives = { λ _ e. e ≡ fault.NoMemory };
+
+    fn from(_e: NoMemory) -> CatalogFault {
+        CatalogFault::NoMemory
+    }
+}
+
 /// The tables of a database, numbered from 0 in their order.
 ///
 /// Contracts see the list of its tables.

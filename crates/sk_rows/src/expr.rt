@@ -5,6 +5,7 @@ ghost use Rattle.sk_rows.specs.Expression.{depth};
 
 use crate::copies::Copies;
 use crate::memory::NoMemory;
+use crate::operations::{First, Spine};
 use crate::text::Txt;
 use crate::value::Value;
 use sqlite_items::Boxed;
@@ -41,7 +42,6 @@ pub enum Op {
 ///
 /// Its parts stand in `Boxed` and not in `Box`: a `Box`'s pointer is part of its value, so no copy would equal what it
 /// copies. Contracts see a `Boxed` as what it holds.
-#[derive(Drop)]
 pub enum Expr {
     /// A value that is written out.
     Lit(Value),
@@ -53,18 +53,40 @@ pub enum Expr {
     Two(Op, Boxed<Expr>, Boxed<Expr>),
 }
 
-impl Copies for Expr {
-    fn copy(&self, alloc: Global) -> Result<Expr, NoMemory> {
-        match self {
-            Expr::Lit(value) => Ok(Expr::Lit(value.copy(alloc)?)),
-            Expr::Col(name) => Ok(Expr::Col(name.copy(alloc)?)),
-            Expr::Not(e) => Ok(Expr::Not(Boxed::new(alloc, e.get().copy(alloc)?)?)),
-            Expr::Two(op, a, b) => {
-                let a = Boxed::new(alloc, a.get().copy(alloc)?)?;
-                let b = Boxed::new(alloc, b.get().copy(alloc)?)?;
-                Ok(Expr::Two(*op, a, b))
+/// Goes down the left sides by a loop, so that a long chain of operators needs no more stack than a short one.
+impl Drop for Expr {
+    fn drop(mut self) {
+        loop {
+            match self {
+                Expr::Lit(_) | Expr::Col(_) => return,
+                Expr::Not(a) => self = a.into_inner(),
+                Expr::Two(_, a, b) => {
+                    let _right = b.into_inner();
+                    self = a.into_inner();
+                }
             }
         }
+    }
+}
+
+impl Copies for Expr {
+    #[tactic(auto, using(crate::proofs::Spines::joined_push, crate::proofs::Spines::below_pop))]
+    fn copy(&self, alloc: Global) -> Result<Expr, NoMemory> {
+        let Spine {
+            first,
+            mut operations,
+        } = self.spine(alloc)?;
+        let mut copy = match first {
+            First::Lit(value) => Expr::Lit(value.copy(alloc)?),
+            First::Col(name) => Expr::Col(name.copy(alloc)?),
+            First::Not(a) => Expr::Not(Boxed::new(alloc, a.copy(alloc)?)?),
+        };
+        while let Some(operation) = operations.pop() {
+            let left = Boxed::new(alloc, copy)?;
+            let right = Boxed::new(alloc, operation.right.copy(alloc)?)?;
+            copy = Expr::Two(operation.op, left, right);
+        }
+        Ok(copy)
     }
 }
 
@@ -73,13 +95,23 @@ impl Expr {
     pub fn is_within(&self, limit: u32) -> bool
         ensures { IsTrue result ↔ (depth self.now ≤ limit) }
     {
-        if limit == 0 {
-            return false;
-        }
-        match self {
-            Expr::Lit(_) | Expr::Col(_) => true,
-            Expr::Not(e) => e.get().is_within(limit - 1),
-            Expr::Two(_, a, b) => a.get().is_within(limit - 1) && b.get().is_within(limit - 1),
+        let mut e = self;
+        let mut left = limit;
+        loop {
+            if left == 0 {
+                return false;
+            }
+            left -= 1;
+            match e {
+                Expr::Lit(_) | Expr::Col(_) => return true,
+                Expr::Not(a) => e = a.get(),
+                Expr::Two(_, a, b) => {
+                    if !b.get().is_within(left) {
+                        return false;
+                    }
+                    e = a.get();
+                }
+            }
         }
     }
 
@@ -87,14 +119,25 @@ impl Expr {
     pub fn is_same(&self, other: &Expr) -> bool
         ensures { IsTrue result ↔ (self.now ≡ other.now) }
     {
-        match (self, other) {
-            (Expr::Lit(a), Expr::Lit(b)) => a.is_same(b),
-            (Expr::Col(a), Expr::Col(b)) => a.is_same(b),
-            (Expr::Not(a), Expr::Not(b)) => a.get().is_same(b.get()),
-            (Expr::Two(o, a, b), Expr::Two(p, c, d)) => {
-                *o == *p && a.get().is_same(c.get()) && b.get().is_same(d.get())
+        let mut left = self;
+        let mut right = other;
+        loop {
+            match (left, right) {
+                (Expr::Lit(a), Expr::Lit(b)) => return a.is_same(b),
+                (Expr::Col(a), Expr::Col(b)) => return a.is_same(b),
+                (Expr::Not(a), Expr::Not(b)) => {
+                    left = a.get();
+                    right = b.get();
+                }
+                (Expr::Two(o, a, b), Expr::Two(p, c, d)) => {
+                    if *o != *p || !b.get().is_same(d.get()) {
+                        return false;
+                    }
+                    left = a.get();
+                    right = c.get();
+                }
+                _ => return false,
             }
-            _ => false,
         }
     }
 }

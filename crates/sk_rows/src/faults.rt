@@ -1,5 +1,7 @@
 //! What can go wrong with an expression.
 
+use crate::memory::NoMemory;
+
 /// The first thing that is wrong with an expression's sorts.
 #[derive(Clone, Copy, Debug, PartialEq, Eq)]
 pub enum TypeFault {
@@ -16,4 +18,15 @@ pub enum ValueFault {
     Overflow,
     /// Memory was wanted and refused.
     NoMemory,
+}
+
+impl From<NoMemory> for ValueFault {
+    ghost use Rattle.std.specs.Prelude.{◌≡◌};
+    ghost use Rattle.sk_rows.specs.declared.faults.ValueFault.TheVariants as fault;
+
+    ghost from_gives = { λ _ e. e ≡ fault.NoMemory };
+
+    fn from(_e: NoMemory) -> ValueFault {
+        ValueFault::NoMemory
+    }
 }

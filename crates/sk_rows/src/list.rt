@@ -1,6 +1,6 @@
 //! A `Vec` that contracts see as the list of its items.
 
-ghost use Rattle.std.specs.Prelude.{◌≡◌, ◌↔◌, ◌<◌, [], ◌∷◌, ◌++◌, length, slice_get, IsTrue, OnOk, OnErr, IfErr, OnSome};
+ghost use Rattle.std.specs.Prelude.{◌≡◌, ◌↔◌, ◌<◌, [], ◌∷◌, ◌++◌, length, slice_get, IsTrue, OnOk, OnErr, IfErr, IfOk, OnSome};
 ghost use Rattle.std.specs.Option.{option_copied};
 
 use crate::copies::Copies;
@@ -89,10 +89,21 @@ impl<T> List<T> {
     }
 }
 
+impl<T: Drop> List<T> {
+    /// The list of one item, which takes room for one.
+    pub fn of_one(alloc: Global, item: T) -> Result<List<T>, NoMemory>
+        ensures { IfOk result (λ list. list ≡ item ∷ []) }
+    {
+        let mut items = Vec::with_capacity(alloc, 1)?;
+        items.push(item)?;
+        Ok(List { items })
+    }
+}
+
 impl<T: Copies> Copies for List<T> {
     fn copy(&self, alloc: Global) -> Result<List<T>, NoMemory> {
-        let mut items = Vec::new(alloc);
         let all = self.items.as_slice();
+        let mut items = Vec::with_capacity(alloc, all.len())?;
         for item in all {
             items.push(item.copy(alloc)?)?;
         }

@@ -4,4 +4,4 @@ use Rattle.sk_expr.proofs.reading.named.Given as goal
 
 -- The columns before this one are picked.
 abbrev pub invariant-loop-name : goal.invariant-loop-name
-invariant-loop-name l = l.out ≡ map (λ name. column_value name l.columns l.row) (take l.name-index l.all)
+invariant-loop-name l = l.out.items ≡ map (λ name. column_value name l.columns l.row) (take l.name-index l.all)

@@ -1,8 +1,0 @@
-use Rattle.std.proofs.Common.{◌≡◌, drop}
-use Rattle.sk_model.specs.Reads.{rows_met}
-use Rattle.sk_expr.specs.Extended.{extended}
-use Rattle.sk_expr.proofs.reading.rows_met.Given as goal
-
--- The rows so far with those to come are all that are met.
-abbrev pub invariant-loop-row : goal.invariant-loop-row
-invariant-loop-row l = extended l.out (rows_met l.columns l.cond (drop l.row-index l.rows)) ≡ rows_met l.columns l.cond l.rows
