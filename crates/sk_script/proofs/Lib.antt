@@ -1,7 +1,12 @@
+pub mod BodyRules
 pub mod Columns
 pub mod Cuts
+pub mod LineRules
 pub mod NewTables
+pub mod NoSemicolon
 pub mod Parts
 pub mod Rising
+pub mod ScriptRules
+pub mod TableRules
 pub mod Takings
 pub mod Turns

@@ -33,7 +33,7 @@ taken_more script n t taken new =
     rw (map-append (λ (l : TableLine). l.table) script.tables (record { line = n; table = t } ∷ [])) (can_add_more [] (map (λ l. l.table) script.tables) t taken new)
 
 -- a step behind another
-then_parts : {A B : Type 0} (r : Result A ParseFault) (f : A → Result B ParseFault) (y : B) → and_then r f ≡ Ok y → (x : A) × (r ≡ Ok x) × (f x ≡ Ok y)
+pub then_parts : {A B : Type 0} (r : Result A ParseFault) (f : A → Result B ParseFault) (y : B) → and_then r f ≡ Ok y → (x : A) × (r ≡ Ok x) × (f x ≡ Ok y)
 then_parts (Ok x) f y e = (x, refl, e)
 then_parts (Err w) f y e = absurd cc
 
@@ -80,7 +80,7 @@ unfolding with_line
 taken_line long script n line after taken e = taken_by (is_passed_over line) long script n line after taken e
 
 -- lines behind a line
-gone_parts : (n : ℕ) (r : Result Script ParseFault) (f : Script → Result Script ScriptFault) (y : Script) → gone_on n r f ≡ Ok y → (x : Script) × (r ≡ Ok x) × (f x ≡ Ok y)
+pub gone_parts : (n : ℕ) (r : Result Script ParseFault) (f : Script → Result Script ScriptFault) (y : Script) → gone_on n r f ≡ Ok y → (x : Script) × (r ≡ Ok x) × (f x ≡ Ok y)
 gone_parts n (Ok x) f y e = (x, refl, e)
 gone_parts n (Err w) f y e = absurd cc
 

@@ -3,6 +3,7 @@ pub mod Legible
 pub mod Header
 pub mod Body
 pub mod Script
+pub mod Rules
 pub mod Tables
 pub mod Words
 pub mod Text
