@@ -46,14 +46,14 @@ drop_all : (ts : List Token) → drop (length ts) ts ≡ []
 drop_all [] = refl
 drop_all (t ∷ ts) = drop_all ts
 
-said_plain : (ts : List Token) (end : ℕ) → list_all goes_on ts ≡ true → said ts end ≡ statement ts end
+pub said_plain : (ts : List Token) (end : ℕ) → list_all goes_on ts ≡ true → said ts end ≡ statement ts end
 unfolding said
 said_plain ts end all =
     ap (λ n. said_by (take n ts) end (drop n ts)) (prefix_all ts all)
     ∙ ap (said_by (take (length ts) ts) end) (drop_all ts)
     ∙ ap (λ us. statement us end) (take_all ts)
 
-said_closed : (us : List Token) (mark : Token) (rest : List Token) (end : ℕ) → list_all goes_on us ≡ true → goes_on mark ≡ false → said (us ++ mark ∷ rest) end ≡ closed us mark.from rest
+pub said_closed : (us : List Token) (mark : Token) (rest : List Token) (end : ℕ) → list_all goes_on us ≡ true → goes_on mark ≡ false → said (us ++ mark ∷ rest) end ≡ closed us mark.from rest
 unfolding said
 said_closed us mark rest end all ends =
     let ts = us ++ mark ∷ rest in
@@ -62,15 +62,15 @@ said_closed us mark rest end all ends =
     ∙ ap (λ before. closed before mark.from rest) (take-append_seam us (mark ∷ rest))
 
 -- tokens with no semicolon, or those before the first and those behind it
-record IsClosed (ts : List Token) : Type 0 where
-  before : List Token
-  mark : Token
-  rest : List Token
-  split : ts ≡ before ++ mark ∷ rest
-  inside : list_all goes_on before ≡ true
-  ends : goes_on mark ≡ false
+pub record IsClosed (ts : List Token) : Type 0 where
+  pub before : List Token
+  pub mark : Token
+  pub rest : List Token
+  pub split : ts ≡ before ++ mark ∷ rest
+  pub inside : list_all goes_on before ≡ true
+  pub ends : goes_on mark ≡ false
 
-first_mark : (ts : List Token) → (list_all goes_on ts ≡ true) ⊎ IsClosed ts
+pub first_mark : (ts : List Token) → (list_all goes_on ts ≡ true) ⊎ IsClosed ts
 first_mark [] = inl refl
 first_mark (t ∷ ts) = by (goes_on t) refl (first_mark ts)
   where
@@ -81,7 +81,7 @@ first_mark (t ∷ ts) = by (goes_on t) refl (first_mark ts)
 
 -- ---- what is read stands in the words
 
-mark_word : (byte : ℕ) (w : Word) → is_mark byte w ≡ true → w ≡ word.Mark byte 0
+pub mark_word : (byte : ℕ) (w : Word) → is_mark byte w ≡ true → w ≡ word.Mark byte 0
 mark_word byte (word.Mark a b) is =
     let parts = and_parts (a == byte) (b == 0) is in
     let first : a ≡ byte = (let e = parts.0 in grind (arith, nat_tests)) in
@@ -92,7 +92,7 @@ mark_word byte (word.Name t) is = absurd cc
 mark_word byte (word.Number n) is = absurd cc
 mark_word byte (word.Text t) is = absurd cc
 
-is_semicolon : (w : Word) → not (is_mark 59 w) ≡ false → is_mark 59 w ≡ true
+pub is_semicolon : (w : Word) → not (is_mark 59 w) ≡ false → is_mark 59 w ≡ true
 is_semicolon w = by (is_mark 59 w)
   where
     by : (b : Bool) → not b ≡ false → b ≡ true

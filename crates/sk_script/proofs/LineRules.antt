@@ -176,19 +176,19 @@ table_key : (w : Word) → is_table w ≡ true → w ≡ word.Key key.Table
 table_key (word.Key key.Table) is = refl
 table_key _ is = absurd cc
 
-record BeginsTable (lines : List ScriptLine) (ts : List Token) : Type 0 where
-  first : lines ≡ []
-  begins : words ts ≡ word.Key key.Table ∷ next (words ts)
+pub record BeginsTable (lines : List ScriptLine) (ts : List Token) : Type 0 where
+  pub first : lines ≡ []
+  pub begins : words ts ≡ word.Key key.Table ∷ next (words ts)
 
-header_words : (lines : List ScriptLine) (ts : List Token) → is_header lines ts ≡ true → BeginsTable lines ts
+pub header_words : (lines : List ScriptLine) (ts : List Token) → is_header lines ts ≡ true → BeginsTable lines ts
 header_words [] (t ∷ ts) is = record { first = refl; begins = ap (λ w. w ∷ words ts) (table_key t.word is) }
 header_words [] [] is = absurd cc
 header_words (l ∷ ls) ts is = absurd cc
 
-table_of : (script : Script) (line : Text) (ts : List Token) (t : Table) → BeginsTable script.lines ts → table_line script.tables ts (length line) ≡ Ok t → IsTable (words ts) t
+pub table_of : (script : Script) (end : ℕ) (ts : List Token) (t : Table) → BeginsTable script.lines ts → table_line script.tables ts end ≡ Ok t → IsTable (words ts) t
 unfolding table_line
-table_of script line ts t header is =
-    let found = answered ts (length line) (table script.tables (next (words ts))) t is in
+table_of script end ts t header is =
+    let found = answered ts end (table script.tables (next (words ts))) t is in
     let same : table script.tables (next (words ts)) ≡ Ok (t, found.0.1) = found.1 ∙ ap (λ x. Ok (x, found.0.1)) found.2 in
     let made = table_words script.tables (next (words ts)) found.0.1 t same in
     (made.0, header.begins ∙ ap (λ l. word.Key key.Table ∷ l) made.1, made.2)
@@ -209,7 +209,7 @@ front_words true script n line after header e =
     let made = ap (λ (f : Legible). table_line script.tables f.tokens f.end) (sym is) ∙ t.1 in
     let has : HasWords line (words whole.found) = record { short = whole.short; found = whole.found; cut = whole.cut; words = refl } in
     subst (Adds script n line) same
-    (Adds.makes (words whole.found) t.0 begins.first has (table_of script line whole.found t.0 begins made) (line_taken script.tables whole.found (length line) t.0 made))
+    (Adds.makes (words whole.found) t.0 begins.first has (table_of script (length line) whole.found t.0 begins made) (line_taken script.tables whole.found (length line) t.0 made))
 front_words false script n line after header e =
     let front = legible false line in
     let what = then_parts (body front.tokens front.end) (λ what. and_then (behind front) (λ _. Ok (line_added script n what))) after e in

@@ -18,7 +18,7 @@ use Rattle.sk_script.specs.declared.script.TableLine.{TableLine}
 use Rattle.sk_script.specs.Body.{body}
 use Rattle.sk_script.specs.Header.{table_line}
 use Rattle.sk_script.specs.Legible.{legible}
-use Rattle.sk_script.specs.Rules.{AreBodies, AreHeaders, AreLines, IsAlone, IsGrammar, IsOpen, IsScript}
+use Rattle.sk_script.specs.Rules.{AreBodies, AreHeaders, AreLines, IsAlone, IsGrammar, IsOpen, IsScript, Makes}
 use Rattle.sk_script.specs.Script.{and_then, behind, goes_on, gone_on, is_header, is_passed_over, line_added, nothing, onto, passed, pieces, read_from, script_of, table_added, with_body, with_front, with_last, with_line, with_table, without_return}
 use Rattle.sk_script.specs.Tables.{CanAdd}
 use Rattle.sk_script.proofs.Cuts.{one_line, some_piece}
@@ -275,26 +275,37 @@ not_long bytes script is = by (nat_lt 16777216 (length bytes)) refl is
         absurd (long_read some.1 some.0 nothing 1 script (ap (read_from true nothing 1) (sym some.2) ∙ e))
     by false at e = ltb-false 16777216 (length bytes) at
 
+-- lines that were read make the script
+pub run_makes : (lines : List Text) (script : Script) → run nothing 1 lines ≡ Ok script → CanAdd [] (tables_of script.tables) → Makes lines script
+run_makes lines script is taken =
+    let r = run_all lines nothing 1 script refl is in
+    record {
+      headers = r.headers;
+      bodies = r.bodies;
+      split = r.split;
+      tables = subst (AreHeaders 1 r.headers) (sym r.all_tables) r.make;
+      taken = taken;
+      said = subst (AreBodies (1 + length r.headers) r.bodies) (sym r.all_lines) r.speak;
+    }
+
 pub script_stands : (bytes : Text) (script : Script) → script_of bytes ≡ Ok script → IsScript bytes script
 script_stands bytes script is =
     let short = not_long bytes script is in
     let lines = some_lines bytes in
-    let r = run_all lines.0 nothing 1 script refl (sym (short_script bytes lines.0 short lines.1) ∙ is) in
     record {
       short = short;
-      headers = r.headers;
-      bodies = r.bodies;
-      lines = subst (AreLines bytes) r.split lines.1;
-      tables = subst (AreHeaders 1 r.headers) (sym r.all_tables) r.make;
-      taken = script_tables bytes script is;
-      said = subst (AreBodies (1 + length r.headers) r.bodies) (sym r.all_lines) r.speak;
+      lines = lines.0;
+      cut = lines.1;
+      made = run_makes lines.0 script (sym (short_script bytes lines.0 short lines.1) ∙ is) (script_tables bytes script is);
     }
 
 pub script_read : (bytes : Text) (script : Script) → IsScript bytes script → script_of bytes ≡ Ok script
 script_read bytes script is =
-    short_script bytes (is.headers ++ is.bodies) is.short is.lines
-    ∙ headers_run 1 is.headers script.tables is.tables [] is.bodies is.taken
-    ∙ bodies_run (1 + length is.headers) is.bodies script.lines is.said script.tables []
+    let made = is.made in
+    short_script bytes is.lines is.short is.cut
+    ∙ ap (run nothing 1) made.split
+    ∙ headers_run 1 made.headers script.tables made.tables [] made.bodies made.taken
+    ∙ bodies_run (1 + length made.headers) made.bodies script.lines made.said script.tables []
 
 pub grammar : IsGrammar
 grammar bytes script = (script_read bytes script, script_stands bytes script)

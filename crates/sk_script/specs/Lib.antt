@@ -4,6 +4,7 @@ pub mod Header
 pub mod Body
 pub mod Script
 pub mod Rules
+pub mod Faults
 pub mod Tables
 pub mod Words
 pub mod Text

@@ -93,15 +93,21 @@ pub data AreLines : Text → List Text → Type 0 where
   last : (b : ℕ) (line : Text) → IsOpen (b ∷ line) → AreLines (b ∷ line) ((b ∷ line) ∷ [])
   ended : (line rest : Text) (lines : List Text) → IsOpen line → AreLines rest lines → AreLines (line ++ 10 ∷ rest) (without_return line ∷ lines)
 
--- script = { header } { body }, of at most 16,777,216 bytes; a catalog takes the tables, one after another
-pub record IsScript (bytes : Text) (script : Script) : Type 0 where
-  pub short : length bytes ≤ 16777216
+-- script = { header } { body }; a catalog takes the tables, one after another
+pub record Makes (lines : List Text) (script : Script) : Type 0 where
   pub headers : List Text
   pub bodies : List Text
-  pub lines : AreLines bytes (headers ++ bodies)
+  pub split : lines ≡ headers ++ bodies
   pub tables : AreHeaders 1 headers script.tables
   pub taken : CanAdd [] (map (λ l. l.table) script.tables)
   pub said : AreBodies (1 + length headers) bodies script.lines
+
+-- a script has at most 16,777,216 bytes
+pub record IsScript (bytes : Text) (script : Script) : Type 0 where
+  pub short : length bytes ≤ 16777216
+  pub lines : List Text
+  pub cut : AreLines bytes lines
+  pub made : Makes lines script
 
 -- Bytes are a script by the rules exactly where they are read as it.
 abbrev pub IsGrammar : Type 0
