@@ -1,4 +1,5 @@
 pub mod Amounts
+pub mod Begun
 pub mod Keywords
 pub mod Lexed
 pub mod Named

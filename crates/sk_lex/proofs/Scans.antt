@@ -1,7 +1,9 @@
 -- A scan that passes over the bytes of a token goes on behind them.
-use Rattle.std.proofs.Common.{◌≡◌, ◌≢◌, ℕ, zero, suc, ◌+◌, ◌-◌, ◌≤◌, List, [], ◌∷◌, ◌++◌, length, slice_index, drop, refl, ap, sym, ◌∙◌, arith}
-use Rattle.std.specs.Prelude.{Ok}
+use Rattle.std.proofs.Common.{◌≡◌, ◌≢◌, ℕ, zero, suc, ◌+◌, ◌-◌, ◌≤◌, List, [], ◌∷◌, ◌++◌, length, slice_index, drop, Some, None, refl, ap, sym, ◌∙◌, arith}
+use Rattle.std.specs.Prelude.{Ok, Err}
 use Rattle.std.proofs.lemmas.Bool.{ne_eqb}
+use Rattle.sk_lex.specs.declared.front.Misfit.TheVariants as misfit
+use Rattle.sk_lex.specs.declared.scanning.Stop.TheVariants as stop
 use Rattle.sk_lex.specs.declared.token.Token.{Token}
 use Rattle.sk_lex.specs.declared.token.Word.{Word}
 use Rattle.sk_lex.specs.Front.{Text, front}
@@ -32,3 +34,18 @@ scan_goes found at (b ∷ z) r is_some other is moves =
     let place : at + 1 + (r.1 - 1) ≡ at + r.1 = omega arith in
     let step : scan_from found 0 at (b ∷ z) ≡ scan_from longer (r.1 - 1) (at + 1) z = rw (ne_eqb b 32 other, is) refl in
     sym (step ∙ scan_drop longer (r.1 - 1) (at + 1) z ∙ ap (λ k. scan_from longer 0 k (drop (r.1 - 1) z)) place ∙ ap (scan_from longer 0 (at + r.1)) (drop_cons r.1 b z moves))
+
+-- no token at the front
+pub scan_bad : (found : List Token) (at n : ℕ) (z : Text) → 1 ≤ length z → slice_index z 0 ≢ 32 → front z ≡ Err (misfit.Bad n)
+    → scan_from found 0 at z ≡ (found, Some (stop.BadByte at (at + n + 1)))
+scan_bad found at n [] is_some other is = absurd (omega arith)
+scan_bad found at n (b ∷ z) is_some other is = rw (ne_eqb b 32 other, is) refl
+
+pub scan_open : (found : List Token) (at : ℕ) (z : Text) → 1 ≤ length z → slice_index z 0 ≢ 32 → front z ≡ Err misfit.Open
+    → scan_from found 0 at z ≡ (found, Some (stop.OpenText (at + 1)))
+scan_open found at [] is_some other is = absurd (omega arith)
+scan_open found at (b ∷ z) is_some other is = rw (ne_eqb b 32 other, is) refl
+
+pub scan_end : (found : List Token) (at : ℕ) (z : Text) → length z ≡ 0 → scan_from found 0 at z ≡ (found, None)
+scan_end found at [] none = refl
+scan_end found at (b ∷ z) none = absurd (omega arith)

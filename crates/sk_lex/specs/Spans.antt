@@ -40,3 +40,9 @@ abbrev pub reach : ℕ → Option Stop → ℕ
 reach len None = len
 reach len (Some (stop.BadByte from place)) = from
 reach len (Some (stop.OpenText place)) = place - 1
+
+-- a byte that fits no token stands in the token that begins there
+abbrev pub IsPlaced : Option Stop → Type 0
+IsPlaced None = Unit {0}
+IsPlaced (Some (stop.BadByte from place)) = from < place
+IsPlaced (Some (stop.OpenText place)) = 1 ≤ place

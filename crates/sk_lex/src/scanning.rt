@@ -1,9 +1,9 @@
 //! A line as tokens.
 
-ghost use Rattle.std.specs.Prelude.{◌≡◌, ◌<◌, ◌^◌, length, All, IfOk};
+ghost use Rattle.std.specs.Prelude.{◌≡◌, ◌≤◌, ◌<◌, ◌^◌, length, All, IfOk};
 ghost use Rattle.sk_rows.specs.Memory.{Gives};
 ghost use Rattle.sk_lex.specs.Scanning as spec;
-ghost use Rattle.sk_lex.specs.Spans.{AreCut, IsBlank, end_of, reach, slice};
+ghost use Rattle.sk_lex.specs.Spans.{AreCut, IsBlank, IsPlaced, end_of, reach, slice};
 
 use crate::front::{Misfit, front};
 use crate::token::{LexFault, Token, TokenList};
@@ -36,19 +36,29 @@ pub struct Scanned {
     pub stop: Option<Stop>,
 }
 
-/// The tokens of a line up to its first fault, and that fault.
+/// The tokens of a line that begin before a place, up to its first fault, and that fault if it begins there too.
+///
+/// `most` is that place, counted from 0. A token that begins before it is read whole, and nothing behind that.
 #[tactic(auto, unfolding(crate::specs::Scanning::scan))]
-pub fn scan(alloc: Global, line: &[u8]) -> Result<Scanned, NoMemory>
+pub fn scan(alloc: Global, line: &[u8], most: u32) -> Result<Scanned, NoMemory>
     requires { length line.now < 2 ^ 31 }
-    ensures value { IfOk result (λ s. (s.tokens, s.stop) ≡ spec.scan line.now) }
+    ensures value { IfOk result (λ s. (s.tokens, s.stop) ≡ spec.begun most (spec.scan line.now)) }
     ensures spans { IfOk result (λ s. AreCut line.now 0 s.tokens) }
-    ensures whole { IfOk result (λ s. IsBlank (slice line.now (end_of 0 s.tokens) (reach (length line.now) s.stop))) }
+    ensures whole { IfOk result (λ s. length line.now ≤ most → IsBlank (slice line.now (end_of 0 s.tokens) (reach (length line.now) s.stop))) }
     ensures before { IfOk result (λ s. All (λ t. t.from < reach (length line.now) s.stop) s.tokens) }
+    ensures begun { IfOk result (λ s. All (λ t. t.from < most) s.tokens) }
+    ensures placed { IfOk result (λ s. IsPlaced s.stop) }
 {
     let mut found = TokenList::new(alloc);
     let mut at: u32 = 0;
     let mut z = line;
     while let [b, ..] = z {
+        if at >= most {
+            return Ok(Scanned {
+                tokens: found,
+                stop: None,
+            });
+        }
         if *b == b' ' {
             at += 1;
             z = &z[1..];
@@ -87,6 +97,18 @@ pub fn scan(alloc: Global, line: &[u8]) -> Result<Scanned, NoMemory>
     })
 }
 
+/// All tokens of a line up to its first fault, and that fault.
+#[tactic(auto, using(crate::proofs::Begun::scan_of_line))]
+fn scan_whole(alloc: Global, line: &[u8]) -> Result<Scanned, NoMemory>
+    requires { length line.now < 2 ^ 31 }
+    ensures value { IfOk result (λ s. (s.tokens, s.stop) ≡ spec.scan line.now) }
+    ensures spans { IfOk result (λ s. AreCut line.now 0 s.tokens) }
+    ensures whole { IfOk result (λ s. IsBlank (slice line.now (end_of 0 s.tokens) (reach (length line.now) s.stop))) }
+    ensures before { IfOk result (λ s. All (λ t. t.from < reach (length line.now) s.stop) s.tokens) }
+{
+    scan(alloc, line, line.len() as u32)
+}
+
 /// The tokens of a line, or its first fault.
 #[tactic(auto, unfolding(crate::specs::Scanning::tokens))]
 pub fn tokens(alloc: Global, line: &[u8]) -> Result<TokenList, LexFault>
@@ -96,7 +118,7 @@ pub fn tokens(alloc: Global, line: &[u8]) -> Result<TokenList, LexFault>
     ensures whole { IfOk result (λ ts. IsBlank (slice line.now (end_of 0 ts) (length line.now))) }
     ensures before { IfOk result (λ ts. All (λ t. t.from < length line.now) ts) }
 {
-    let Scanned { tokens, stop } = scan(alloc, line)?;
+    let Scanned { tokens, stop } = scan_whole(alloc, line)?;
     match stop {
         None => Ok(tokens),
         Some(Stop::BadByte { place, .. }) => Err(LexFault::BadByte { place }),

@@ -88,8 +88,11 @@ fn marks(rt: HostRuntime) -> Result<(), Fail> {
 
 #[test]
 fn stops(rt: HostRuntime) -> Result<(), Fail> {
-    let all = scan(rt.alloc(), b"SELEC 'a\tb'").map_err(|_| "memory")?;
+    let all = scan(rt.alloc(), b"SELEC 'a\tb'", 7).map_err(|_| "memory")?;
     assert_eq!(rt; all.tokens.len(), 1);
     assert_eq!(rt; all.stop, Some(Stop::BadByte { from: 6, place: 9 }));
+    let front = scan(rt.alloc(), b"SELEC 'a\tb'", 6).map_err(|_| "memory")?;
+    assert_eq!(rt; front.tokens.len(), 1);
+    assert_eq!(rt; front.stop, None);
     Ok(())
 }

@@ -12,7 +12,8 @@ mod reading;
 mod terms;
 mod writing;
 
-pub use fault::ParseFault;
+pub use cursor::{Cursor, Sign};
+pub use fault::{Fault, ParseFault};
 pub use laws::{printed_words_are_read, words_are_read_by_the_grammar};
 pub use printable::can_be_printed;
 pub use reading::statement;

@@ -12,8 +12,9 @@ use Rattle.sk_rows.specs.declared.value.Sort.{Sort}
 use Rattle.sk_rows.specs.declared.value.Sort.TheVariants as sorts
 use Rattle.sk_rows.specs.Catalog.{are_columns, are_named, has_bool_key, has_column, is_bool}
 use Rattle.sk_rows.specs.Names.{is_name}
-use Rattle.sk_parse.specs.Input.{Input, ◌>>=◌, pure, refuse}
-use Rattle.sk_script.specs.Header.{behind_comma, column, column_name, columns, columns_from, is_bool_key, named, new_column, sees_comma, sort}
+use Rattle.sk_parse.specs.declared.cursor.Sign.TheVariants as sign
+use Rattle.sk_parse.specs.Input.{Input, ◌>>=◌, after, pure, refuse, sees}
+use Rattle.sk_script.specs.Header.{column, column_name, columns, columns_from, is_bool_key, named, new_column, sort}
 use Rattle.sk_script.proofs.Parts.{allowed, kept, then_parts, took}
 
 -- a name that none of these columns has, with room for one more
@@ -41,7 +42,7 @@ is_new cs (word.Text t) name e = absurd cc
 is_new cs (word.Mark a b) name e = absurd cc
 
 -- two texts differ in either order
-unlike : (a b : List ℕ) → bytes_eq a b ≡ false → bytes_eq b a ≡ false
+pub unlike : (a b : List ℕ) → bytes_eq a b ≡ false → bytes_eq b a ≡ false
 unlike a b e = false_from_ne_true (bytes_eq b a) (λ same.
     let equal : b ≡ a = (bytes_eq-Decides b a).0 same in
     let other : bytes_eq a b ≡ true = (bytes_eq-Decides a b).1 (sym equal) in
@@ -115,7 +116,7 @@ good_turn false n cs i p later good e = subst AreGood (same_value cs i p e) good
 good_from : (n : ℕ) (cs : List Column) (i : Input) (p : List Column × Input) → AreGood cs → columns_from n cs i ≡ Ok p → AreGood p.0
 unfolding columns_from
 good_from zero cs i p good e = subst AreGood (same_value cs i p e) good
-good_from (suc n) cs i p good e = good_turn (sees_comma i) n cs (behind_comma i) p (λ c rest. good_from n (cs ++ c ∷ []) rest p) good e
+good_from (suc n) cs i p good e = good_turn (sees (sign.Mark 44 0) i) n cs (after (sign.Mark 44 0) i) p (λ c rest. good_from n (cs ++ c ∷ []) rest p) good e
 
 good_columns : (i : Input) (p : List Column × Input) → columns i ≡ Ok p → AreGood p.0
 unfolding columns

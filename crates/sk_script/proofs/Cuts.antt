@@ -40,7 +40,7 @@ one_piece (b ∷ bs) long = ⊎_elim
     (cases_Bool (b == 10))
 
 -- there is always a piece
-some_piece : (bs : List ℕ) → (p : List ℕ) × (ps : List (List ℕ)) × (pieces bs ≡ p ∷ ps)
+pub some_piece : (bs : List ℕ) → (p : List ℕ) × (ps : List (List ℕ)) × (pieces bs ≡ p ∷ ps)
 some_piece [] = ([], [], refl)
 some_piece (b ∷ bs) = ⊎_elim
     (λ (e : (b == 10) ≡ true). ([], pieces bs, rw e refl))

@@ -1,7 +1,16 @@
+pub mod BodyFaults
+pub mod BodyRules
 pub mod Columns
 pub mod Cuts
+pub mod LineFaults
+pub mod LineRules
 pub mod NewTables
+pub mod NoSemicolon
 pub mod Parts
 pub mod Rising
+pub mod ScriptFaults
+pub mod ScriptRules
+pub mod TableFaults
+pub mod TableRules
 pub mod Takings
 pub mod Turns

@@ -34,7 +34,7 @@ is_new lines (word.Text t) name e = absurd cc
 is_new lines (word.Mark a b) name e = absurd cc
 
 -- the same tables without their lines
-same_names : (name : List ℕ) (lines : List TableLine) → has_name name (map (λ l. l.table) lines) ≡ has_table name lines
+pub same_names : (name : List ℕ) (lines : List TableLine) → has_name name (map (λ l. l.table) lines) ≡ has_table name lines
 unfolding has_name
 same_names name [] = refl
 same_names name (l ∷ ls) = ap (λ (b : Bool). bytes_eq l.table.name name || b) (same_names name ls)
@@ -54,7 +54,7 @@ ended_as {A} true x i p e =
     ap (λ (q : A × Input). q.0) same
 ended_as false x i p e = absurd cc
 
-table_taken : (lines : List TableLine) (i : Input) (p : Table × Input) → table lines i ≡ Ok p → add_fault (map (λ l. l.table) lines) p.0 ≡ None
+pub table_taken : (lines : List TableLine) (i : Input) (p : Table × Input) → table lines i ≡ Ok p → add_fault (map (λ l. l.table) lines) p.0 ≡ None
 unfolding table table_name
 table_taken lines i p e =
     let name = then_parts (table_name lines i) (λ name. engine >>= (λ store. columns >>= (λ cs. ended (made name store cs)))) p e in
@@ -65,7 +65,7 @@ table_taken lines i p e =
     let P : Table → Type 0 = λ t. add_fault (map (λ l. l.table) lines) t ≡ None in
     subst P same (made_taken lines (made name.0.0 store.0.0 cs.0.0) (is_new lines word.0 name.0.0 word.1) (columns_are_good store.0.1 cs.0 cs.1))
 
-answered : {A : Type 0} (tokens : List Token) (end : ℕ) (o : Outcome A) (x : A) → answer tokens end o ≡ Ok x → (p : A × Input) × (o ≡ Ok p) × (p.0 ≡ x)
+pub answered : {A : Type 0} (tokens : List Token) (end : ℕ) (o : Outcome A) (x : A) → answer tokens end o ≡ Ok x → (p : A × Input) × (o ≡ Ok p) × (p.0 ≡ x)
 answered tokens end (Ok p) x e =
     let same : p.0 ≡ x = cc in
     (p, refl, same)

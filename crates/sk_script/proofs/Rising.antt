@@ -1,12 +1,10 @@
 -- Tokens of a line stand one behind the other, and so do parts of them.
-use Rattle.std.proofs.Common.{◌≡◌, ℕ, zero, suc, ◌-◌, ◌≤◌, ◌<◌, true, false, List, [], ◌∷◌, length, take, drop, get_or, sym, ap, subst, ◌∙◌, arith, ⊎_elim}
+use Rattle.std.proofs.Common.{◌≡◌, ℕ, zero, suc, ◌-◌, ◌≤◌, ◌<◌, true, false, List, [], ◌∷◌, length, take, drop, get_or, refl, sym, ap, subst, ◌∙◌, arith, Bool, cond}
 use Rattle.std.specs.Prelude.{All, Option, Some, None, nat_lt}
-use Rattle.std.specs.List.{AllPairs, prefix_len}
-use Rattle.std.proofs.lemmas.Bool.{cases_Bool, ltb-true}
-use Rattle.std.proofs.lemmas.List.{take_rest, get_or-take}
-use Rattle.std.proofs.lemmas.List.Elements.{All-cons, All-drop, All-head, All-tail}
-use Rattle.std.proofs.lemmas.List.Folds.{length-prefix_len}
-use Rattle.std.proofs.lemmas.List.Sums.{prefix_len_passes}
+use Rattle.std.specs.List.{AllPairs}
+use Rattle.std.proofs.lemmas.Bool.{ltb-true}
+use Rattle.std.proofs.lemmas.List.{take_rest}
+use Rattle.std.proofs.lemmas.List.Elements.{All-cons, All-drop, All-head, All-push, All-tail}
 use Rattle.std.proofs.lemmas.List.Kept.{AllPairs-cons}
 use Rattle.std.proofs.lemmas.List.Quantifiers.{all_pairs_push}
 use Rattle.sk_lex.specs.declared.scanning.Stop.{Stop}
@@ -14,8 +12,8 @@ use Rattle.sk_lex.specs.declared.scanning.Stop.TheVariants as stop
 use Rattle.sk_lex.specs.declared.token.Token.{Token}
 use Rattle.sk_lex.specs.declared.token.Word.TheVariants as word
 use Rattle.sk_lex.specs.Front.{Text}
-use Rattle.sk_lex.specs.Spans.{AreCut, reach}
-use Rattle.sk_script.specs.Legible.{begins_before, kept, open_from, with_text}
+use Rattle.sk_lex.specs.Spans.{AreCut, IsPlaced, reach as before_fault}
+use Rattle.sk_script.specs.Legible.{capped, is_long, open_from, reach, with_text}
 use Rattle.sk_script.specs.Lines.{IsLine}
 
 pairs_tail : (t : Token) (ts : List Token) → AllPairs (λ t u. t.from < u.from) (t ∷ ts) → AllPairs (λ t u. t.from < u.from) ts
@@ -90,34 +88,61 @@ cut_rises : (line : Text) (at : ℕ) (ts : List Token) → AreCut line at ts →
 cut_rises line at [] cut = λ i j d less within. absurd (omega arith)
 cut_rises line at (t ∷ ts) cut = AllPairs-cons (λ t u. t.from < u.from) t ts (all_from line t.to ts t.from cut.0.some cut.1) (cut_rises line t.to ts cut.1)
 
-text_rises : (s : Option Stop) (len : ℕ) (ts : List Token) (end : ℕ) → AllPairs (λ t u. t.from < u.from) ts → All (λ t. t.from < reach len s) ts
-    → AllPairs (λ t u. t.from < u.from) (with_text ts end (open_from s end))
-text_rises None len ts end rises before = rises
-text_rises (Some (stop.OpenText place)) len ts end rises before = rises
-text_rises (Some (stop.BadByte from place)) len ts end rises before = ⊎_elim
-    (λ (e : nat_lt from end ≡ true). rw e (all_pairs_push (λ t u. t.from < u.from) ts (record { word = word.Text []; from = from; to = end }) rises before))
-    (λ (e : nat_lt from end ≡ false). rw e rises)
-    (cases_Bool (nat_lt from end))
+-- no token begins behind the byte that fits none
+no_nearer : (line : Text) (s : Option Stop) → IsPlaced s → before_fault (length line) s ≤ reach line s
+no_nearer line None placed = omega arith
+no_nearer line (Some (stop.OpenText place)) placed = omega arith
+no_nearer line (Some (stop.BadByte from place)) placed = by (is_long from line)
+  where
+    by : (b : Bool) → from ≤ cond b from (place - 1)
+    by true = omega arith
+    by false = omega arith
 
-kept_before : (ts : List Token) (end : ℕ) → All (λ t. t.from < end) (kept ts end)
-kept_before ts end = λ k d within.
-    let n = prefix_len (begins_before end) ts in
-    let long : length (take n ts) ≡ n = length-prefix_len (begins_before end) ts in
-    let less : k < n = omega arith in
-    subst (λ (t : Token). t.from < end) (sym (get_or-take n ts k d less)) (ltb-true (get_or ts k d).from end (prefix_len_passes (begins_before end) ts k d less))
+below_cap : (m n : ℕ) → m < n → m < 4096 → m < capped n
+below_cap m n less most = by (nat_lt n 4096)
+  where
+    by : (b : Bool) → m < cond b n 4096
+    by true = less
+    by false = most
 
-front_of : (line : Text) (s : Option Stop) (ts : List Token) (end : ℕ) → end ≤ 4096 → AreCut line 0 ts → All (λ t. t.from < reach (length line) s) ts
-    → IsLine (kept (with_text ts end (open_from s end)) end) end
-front_of line s ts end short cut before = record {
-  short = short;
-  before = kept_before (with_text ts end (open_from s end)) end;
-  rising = pairs_take (prefix_len (begins_before end) (with_text ts end (open_from s end))) (with_text ts end (open_from s end)) (text_rises s (length line) ts end (cut_rises line 0 ts cut) before);
-}
+all_before_cap : (line : Text) (s : Option Stop) (ts : List Token) → IsPlaced s → All (λ t. t.from < before_fault (length line) s) ts → All (λ t. t.from < 4096) ts
+    → All (λ t. t.from < capped (reach line s)) ts
+all_before_cap line s ts placed before begun = λ k d within.
+    let least = no_nearer line s placed in
+    let less : (get_or ts k d).from < before_fault (length line) s = before k d within in
+    below_cap (get_or ts k d).from (reach line s) (omega arith) (begun k d within)
+
+is_capped : (n : ℕ) → capped n ≤ 4096
+is_capped n = by (nat_lt n 4096) refl
+  where
+    by : (b : Bool) → nat_lt n 4096 ≡ b → cond b n 4096 ≤ 4096
+    by true is = let less = ltb-true n 4096 is in omega arith
+    by false is = omega arith
+
+-- a text that holds such a byte begins behind the other tokens
+with_text_line : (s : Option Stop) (len : ℕ) (ts : List Token) (end : ℕ) → IsLine ts end → All (λ t. t.from < before_fault len s) ts → IsLine (with_text ts end (open_from s end)) end
+with_text_line None len ts end is before = is
+with_text_line (Some (stop.OpenText place)) len ts end is before = is
+with_text_line (Some (stop.BadByte from place)) len ts end is before = by (nat_lt from end) refl
+  where
+    text : Token
+    text = record { word = word.Text []; from = from; to = end }
+
+    by : (b : Bool) → nat_lt from end ≡ b → IsLine (with_text ts end (cond b (Some from) None)) end
+    by true less = record {
+      short = is.short;
+      before = All-push (λ t. t.from < end) ts text is.before (ltb-true from end less);
+      rising = all_pairs_push (λ t u. t.from < u.from) ts text is.rising before;
+    }
+    by false less = is
 
 -- the front of a line is one
-pub front_is_line : (line : Text) (s : Option Stop) (ts : List Token) (end : ℕ) → end ≤ 4096 → AreCut line 0 ts → All (λ t. t.from < reach (length line) s) ts
-    → (from : Option ℕ) → from ≡ open_from s end → (whole : List Token) → whole ≡ with_text ts end from → (found : List Token) → found ≡ kept whole end → IsLine found end
-front_is_line line s ts end short cut before from is_from whole is_whole found is_found =
-    let same : found ≡ kept (with_text ts end (open_from s end)) end =
-    is_found ∙ ap (λ us. kept us end) (is_whole ∙ ap (with_text ts end) is_from) in
-    subst (λ us. IsLine us end) (sym same) (front_of line s ts end short cut before)
+pub front_is_line : (line : Text) (s : Option Stop) (ts : List Token) (end : ℕ) → end ≡ capped (reach line s) → AreCut line 0 ts
+    → All (λ t. t.from < before_fault (length line) s) ts → All (λ t. t.from < 4096) ts → IsPlaced s → IsLine (with_text ts end (open_from s end)) end
+front_is_line line s ts end is cut before begun placed =
+    let front : IsLine ts (capped (reach line s)) = record {
+      short = is_capped (reach line s);
+      before = all_before_cap line s ts placed before begun;
+      rising = cut_rises line 0 ts cut;
+    } in
+    with_text_line s (length line) ts end (subst (IsLine ts) (sym is) front) before

@@ -25,7 +25,7 @@ can_add_more before [] t can new =
 can_add_more before (u ∷ ts) t can new = (can.0, can_add_more (before ++ u ∷ []) ts t can.1 (rw (append_assoc before (u ∷ []) ts) new))
 
 -- what is said of a script
-abbrev AreTaken : Script → Type 0
+abbrev pub AreTaken : Script → Type 0
 AreTaken script = CanAdd [] (map (λ l. l.table) script.tables)
 
 taken_more : (script : Script) (n : ℕ) (t : Table) → AreTaken script → add_fault (map (λ l. l.table) script.tables) t ≡ None → AreTaken (table_added script n t)
@@ -33,7 +33,7 @@ taken_more script n t taken new =
     rw (map-append (λ (l : TableLine). l.table) script.tables (record { line = n; table = t } ∷ [])) (can_add_more [] (map (λ l. l.table) script.tables) t taken new)
 
 -- a step behind another
-then_parts : {A B : Type 0} (r : Result A ParseFault) (f : A → Result B ParseFault) (y : B) → and_then r f ≡ Ok y → (x : A) × (r ≡ Ok x) × (f x ≡ Ok y)
+pub then_parts : {A B : Type 0} (r : Result A ParseFault) (f : A → Result B ParseFault) (y : B) → and_then r f ≡ Ok y → (x : A) × (r ≡ Ok x) × (f x ≡ Ok y)
 then_parts (Ok x) f y e = (x, refl, e)
 then_parts (Err w) f y e = absurd cc
 
@@ -75,12 +75,12 @@ taken_by false long script n line after taken e =
     let front = legible long line in
     taken_front (is_header script.lines front.tokens) script n front after taken e
 
-taken_line : (long : Bool) (script : Script) (n : ℕ) (line : Text) (after : Script) → AreTaken script → with_line long script n line ≡ Ok after → AreTaken after
+pub taken_line : (long : Bool) (script : Script) (n : ℕ) (line : Text) (after : Script) → AreTaken script → with_line long script n line ≡ Ok after → AreTaken after
 unfolding with_line
 taken_line long script n line after taken e = taken_by (is_passed_over line) long script n line after taken e
 
 -- lines behind a line
-gone_parts : (n : ℕ) (r : Result Script ParseFault) (f : Script → Result Script ScriptFault) (y : Script) → gone_on n r f ≡ Ok y → (x : Script) × (r ≡ Ok x) × (f x ≡ Ok y)
+pub gone_parts : (n : ℕ) (r : Result Script ParseFault) (f : Script → Result Script ScriptFault) (y : Script) → gone_on n r f ≡ Ok y → (x : Script) × (r ≡ Ok x) × (f x ≡ Ok y)
 gone_parts n (Ok x) f y e = (x, refl, e)
 gone_parts n (Err w) f y e = absurd cc
 

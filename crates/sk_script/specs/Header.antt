@@ -1,5 +1,5 @@
 -- Lines that make tables. Parsers are those of statements: they take words, and fail with how many are left.
-use Rattle.std.specs.Prelude.{◌≡◌, ℕ, zero, suc, ◌-◌, Bool, true, false, not, ◌&&◌, ◌==◌, if◌then◌else◌, nat_lt, List, [], ◌∷◌, ◌++◌, length, drop, map, Option, Some, None, Result, Ok, Err}
+use Rattle.std.specs.Prelude.{ℕ, zero, suc, ◌-◌, Bool, true, false, not, ◌&&◌, ◌==◌, if◌then◌else◌, nat_lt, List, [], ◌∷◌, ◌++◌, length, drop, map, Option, Some, None, Result, Ok, Err}
 use Rattle.std.specs.List.{list_any}
 use Rattle.std.specs.Str.{bytes_eq}
 use Rattle.sk_lex.specs.declared.token.Keyword.TheVariants as key
@@ -14,32 +14,10 @@ use Rattle.sk_rows.specs.Catalog.{has_column}
 use Rattle.sk_rows.specs.Names.{is_name}
 use Rattle.sk_parse.specs.declared.fault.ParseFault.{ParseFault}
 use Rattle.sk_parse.specs.declared.fault.ParseFault.TheVariants as parse
-use Rattle.sk_parse.specs.Input.{Input, Outcome, Parser, ◌>>=◌, pure, refuse, next, taken}
+use Rattle.sk_parse.specs.declared.cursor.Sign.TheVariants as sign
+use Rattle.sk_parse.specs.Input.{Outcome, Parser, ◌>>=◌, eat, pure, refuse, next, taken}
 use Rattle.sk_parse.specs.Statements.{place_of}
-use Rattle.sk_script.specs.declared.cursor.Fault.{Fault}
-use Rattle.sk_script.specs.declared.cursor.Fault.TheVariants as fault
 use Rattle.sk_script.specs.declared.script.TableLine.{TableLine}
-
--- what a function that parses ensures: the outcome, unless memory runs out
-abbrev pub Reads : {A : Type 0} → Outcome A → Result A Fault → Input → Type 0
-Reads outcome (Ok a) new = outcome ≡ Ok (a, new)
-Reads outcome (Err (fault.Left n)) new = outcome ≡ Err n
-Reads outcome (Err fault.NoMemory) new = Unit {0}
-
-abbrev pub is_comma : Word → Bool
-is_comma (word.Mark a b) = a == 44 && b == 0
-is_comma _ = false
-
-unfoldable pub sees_comma : Input → Bool
-sees_comma [] = false
-sees_comma (w ∷ i) = is_comma w
-
-unfoldable pub behind_comma : Input → Input
-behind_comma i = if sees_comma i then next i else i
-
--- whether a comma stands at the front, which is passed over
-abbrev pub eat_comma : Parser Bool
-eat_comma = λ i. Ok (sees_comma i, behind_comma i)
 
 -- some table has this name
 abbrev pub has_table : List ℕ → List TableLine → Bool
@@ -98,7 +76,7 @@ column columns = λ i. (do
 unfoldable pub columns_from : ℕ → List Column → Parser (List Column)
 columns_from zero found = pure found
 columns_from (suc n) found = do
-  more ← eat_comma
+  more ← eat (sign.Mark 44 0)
   if more then (do c ← column found; columns_from n (found ++ c ∷ [])) else pure found
 
 -- one or more columns, with commas between

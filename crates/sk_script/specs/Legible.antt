@@ -1,12 +1,11 @@
 -- How far a line can be read.
-use Rattle.std.specs.Prelude.{ℕ, ◌+◌, ◌-◌, Bool, true, false, ◌||◌, ◌==◌, if◌then◌else◌, nat_lt, List, [], ◌∷◌, ◌++◌, length, take, drop, Option, Some, None, is_some}
-use Rattle.std.specs.List.{prefix_len}
+use Rattle.std.specs.Prelude.{ℕ, ◌+◌, ◌-◌, Bool, true, false, ◌||◌, ◌==◌, if◌then◌else◌, nat_lt, List, [], ◌∷◌, ◌++◌, length, drop, Option, Some, None, is_some}
 use Rattle.sk_lex.specs.declared.scanning.Stop.{Stop}
 use Rattle.sk_lex.specs.declared.scanning.Stop.TheVariants as stop
 use Rattle.sk_lex.specs.declared.token.Token.{Token}
 use Rattle.sk_lex.specs.declared.token.Word.TheVariants as word
 use Rattle.sk_lex.specs.Front.{Text}
-use Rattle.sk_lex.specs.Scanning.{scan}
+use Rattle.sk_lex.specs.Scanning.{Scan, begun, scan}
 use Rattle.sk_script.specs.declared.legible.Legible.{Legible}
 
 -- How many bytes a text holds that goes on with these, behind so many others. The flag: a quote was read, which ends
@@ -41,21 +40,17 @@ abbrev pub with_text : List Token → ℕ → Option ℕ → List Token
 with_text tokens end None = tokens
 with_text tokens end (Some from) = tokens ++ record { word = word.Text []; from = from; to = end } ∷ []
 
-abbrev pub begins_before : ℕ → Token → Bool
-begins_before end t = nat_lt t.from end
-
--- the tokens that begin there
-abbrev pub kept : List Token → ℕ → List Token
-kept tokens end = take (prefix_len (begins_before end) tokens) tokens
-
-abbrev pub front : Bool → Text → Option Stop → List Token → ℕ → Legible
-front long line s tokens end = record {
-  tokens = kept (with_text tokens end (open_from s end)) end;
+abbrev pub front : Bool → Text → Scan → ℕ → Legible
+front long line s end = record {
+  tokens = with_text s.0 end (open_from s.1 end);
   end = end;
-  spoilt = long || nat_lt 4096 (length line) || is_some s;
+  spoilt = long || nat_lt 4096 (length line) || is_some s.1;
 }
+
+abbrev pub front_by : Bool → Text → Scan → Legible
+front_by long line s = front long line s (capped (reach line s.1))
 
 -- The front of a line, up to the first byte that may not stand there: one that fits no token, the one past the limit
 -- of lines, or one past the limit of scripts, which stands behind the line. Tokens that begin before it are in it whole.
 unfoldable pub legible : Bool → Text → Legible
-legible long line = front long line (scan line).1 (scan line).0 (capped (reach line (scan line).1))
+legible long line = front_by long line (begun 4096 (scan line))

@@ -3,6 +3,8 @@ pub mod Legible
 pub mod Header
 pub mod Body
 pub mod Script
+pub mod Rules
+pub mod Faults
 pub mod Tables
 pub mod Words
 pub mod Text

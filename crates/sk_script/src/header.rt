@@ -2,16 +2,17 @@
 
 ghost use Rattle.std.specs.Prelude.{◌≡◌, IfOk};
 ghost use Rattle.sk_rows.specs.Catalog.{has_column as has_column_of};
+ghost use Rattle.sk_parse.specs.Input.{Reads};
 ghost use Rattle.sk_script.specs.Header as spec;
-ghost use Rattle.sk_script.specs.Header.{Reads};
 ghost use Rattle.sk_script.specs.Lines.{IsLine, Gives};
 
-use crate::cursor::{Cursor, Fault};
 use crate::script::TableLine;
 use sk_lex::{Keyword, Token, Word};
-use sk_parse::ParseFault;
+use sk_parse::{Cursor, Fault, ParseFault, Sign};
 use sk_rows::{Column, ColumnList, Copies, NoMemory, Sort, Table, Txt, is_name};
 use std::alloc::Global;
+
+const COMMA: Sign = Sign::Mark(b',', 0);
 
 /// The most tables of a script.
 const MOST_TABLES: usize = 64;
@@ -173,7 +174,7 @@ fn columns(alloc: Global, cursor: &mut Cursor<'_>) -> Result<ColumnList, Fault>
     let mut found = ColumnList::new(alloc);
     found.push(column(alloc, &[], cursor)?)?;
     for _turn in 0..cursor.left() {
-        if !cursor.eat_comma() {
+        if !cursor.eat(COMMA) {
             return Ok(found);
         }
         let next = column(alloc, found.as_slice(), cursor)?;

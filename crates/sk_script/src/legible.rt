@@ -1,7 +1,6 @@
 //! How far a line can be read.
 
 ghost use Rattle.std.specs.Prelude.{◌≡◌, ◌≤◌, length, drop, false, IfOk};
-ghost use Rattle.std.specs.List.{prefix_len};
 ghost use Rattle.sk_script.specs.Legible as spec;
 ghost use Rattle.sk_script.specs.Lines.{IsLine};
 
@@ -128,28 +127,6 @@ fn with_text(
     Ok(tokens)
 }
 
-/// How many tokens stand before the first that does not begin there.
-fn begun_len(tokens: &[Token], end: u32) -> usize
-    ensures value { result ≡ prefix_len (spec.begins_before end) tokens.now }
-    ensures within { result ≤ length tokens.now }
-{
-    let mut n = 0;
-    while n < tokens.len() && tokens[n].from < end {
-        n += 1;
-    }
-    n
-}
-
-/// The tokens that begin there.
-fn kept(tokens: TokenList, end: u32) -> TokenList
-    ensures { result ≡ spec.kept tokens end }
-{
-    let len = begun_len(tokens.as_slice(), end);
-    let mut found = tokens.into_vec();
-    found.truncate(len);
-    TokenList::from_vec(found)
-}
-
 /// The front of a line that can be read. `long` says that a byte stands behind the line which may not be there.
 #[tactic(auto, unfolding(crate::specs::Legible::legible))]
 pub fn legible_front(alloc: Global, line: &[u8], long: bool) -> Result<Legible, NoMemory>
@@ -157,11 +134,10 @@ pub fn legible_front(alloc: Global, line: &[u8], long: bool) -> Result<Legible, 
     ensures value { IfOk result (λ r. r ≡ spec.legible long line.now) }
     ensures ordered { IfOk result (λ r. IsLine r.tokens r.end) }
 {
-    let Scanned { tokens, stop } = scan(alloc, line)?;
+    let Scanned { tokens, stop } = scan(alloc, line, LONGEST as u32)?;
     let end = capped(reach(line, stop));
-    let whole = with_text(alloc, tokens, open_from(stop, end), end)?;
     Ok(Legible {
-        tokens: kept(whole, end),
+        tokens: with_text(alloc, tokens, open_from(stop, end), end)?,
         end,
         spoilt: long || line.len() > LONGEST || stop.is_some(),
     })

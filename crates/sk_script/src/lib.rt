@@ -2,9 +2,9 @@
 #![tactic(auto)]
 
 mod body;
-mod cursor;
 mod fault_line;
 mod header;
+mod laws;
 mod legible;
 mod line;
 mod pieces;
@@ -15,6 +15,7 @@ mod script;
 mod words;
 
 pub use fault_line::put_script_fault;
+pub use laws::bytes_are_read_by_the_grammar;
 pub use reading::read_script;
 pub use replies::put_reply_lines;
 pub use report::put_report;

@@ -3,6 +3,7 @@
 ghost use Rattle.std.specs.Prelude.{◌≡◌, ◌+◌, ◌≤◌, ◌<◌, [], ◌∷◌, length, map, IfSome, IfNone, IfOk, take};
 ghost use Rattle.std.specs.Option.{option_copied};
 ghost use Rattle.std.specs.List.{prefix_len};
+ghost use Rattle.sk_script.specs.Faults.{IsAnswer};
 ghost use Rattle.sk_script.specs.Script as spec;
 ghost use Rattle.sk_script.specs.Tables.{CanAdd};
 
@@ -140,9 +141,12 @@ fn read_front(alloc: Global, bytes: &[u8]) -> Result<Script, ScriptFault>
 ///
 /// Faults are a token that does not fit, passes a limit or repeats a name, a byte that is not allowed, a text that is
 /// not ended, the end of a line where more was to come, and what passes the limits of a line or of the script.
-#[tactic(auto, using(crate::proofs::Takings::given_tables))]
+#[tactic(auto, using(crate::proofs::Takings::given_tables, crate::proofs::ScriptFaults::answered))]
 pub fn read_script(alloc: Global, bytes: &[u8]) -> Result<Script, ScriptFault>
     ensures exact { spec.Gives result (spec.script_of bytes.now) }
+
+    // The script by the rules of its grammar, or the first fault by them.
+    ensures grammar { IsAnswer bytes.now result }
 
     // A catalog takes its tables, one after another.
     ensures tables { IfOk result (λ script. CanAdd [] (map (λ l. l.table) script.tables)) }

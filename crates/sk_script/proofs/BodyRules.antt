@@ -1,0 +1,224 @@
+-- The words of a session's line: they are read as it exactly where the rules make it of them.
+use Rattle.std.proofs.Common.{◌≡◌, ◌==◌, ℕ, zero, suc, ◌+◌, Bool, true, false, cond, not, ◌&&◌, List, [], ◌∷◌, ◌++◌, length, map, take, drop, Option, Some, None, refl, sym, ap, subst, ◌∙◌, arith, ◌⊎◌, inl, inr}
+use Rattle.std.specs.Prelude.{Result, Ok, Err}
+use Rattle.std.specs.List.{list_all, prefix_len}
+use Rattle.std.proofs.Math.Seq.{drop-append_seam, take-append_seam}
+use Rattle.std.proofs.lemmas.Bool.{and_parts, cases_Bool}
+use Rattle.std.proofs.lemmas.Bool.Decides.{nat_tests}
+use Rattle.std.proofs.lemmas.List.{map-append}
+use Rattle.sk_lex.specs.declared.token.Token.{Token}
+use Rattle.sk_lex.specs.declared.token.Word.{Word}
+use Rattle.sk_lex.specs.declared.token.Word.TheVariants as word
+use Rattle.sk_rows.specs.declared.statement.Statement.{Statement}
+use Rattle.sk_parse.specs.declared.fault.ParseFault.{ParseFault}
+use Rattle.sk_parse.specs.Places.{words}
+use Rattle.sk_parse.specs.Saying.{Says}
+use Rattle.sk_parse.specs.Statements.{answer, statement}
+use Rattle.sk_parse.proofs.Answered.{answered}
+use Rattle.sk_parse.proofs.CompleteStatement.{whole_read}
+use Rattle.sk_script.specs.declared.script.Line.{Line}
+use Rattle.sk_script.specs.declared.script.Line.TheVariants as line
+use Rattle.sk_script.specs.Body.{alone, behind_session, body, by_session, closed, goes_on, is_mark, misfit, said, said_by, says, session_of}
+use Rattle.sk_script.specs.Rules.{IsBody, IsSession}
+use Rattle.sk_script.proofs.NoSemicolon.{goes, said_free}
+
+-- ---- where the first semicolon stands
+
+prefix_all : (ts : List Token) → list_all goes_on ts ≡ true → prefix_len goes_on ts ≡ length ts
+prefix_all [] all = refl
+prefix_all (t ∷ ts) all =
+    let parts = and_parts (goes_on t) (list_all goes_on ts) all in
+    let rest = prefix_all ts parts.1 in
+    rw parts.0 (omega arith)
+
+prefix_before : (us : List Token) (mark : Token) (rest : List Token) → list_all goes_on us ≡ true → goes_on mark ≡ false → prefix_len goes_on (us ++ mark ∷ rest) ≡ length us
+prefix_before [] mark rest all ends = rw ends refl
+prefix_before (t ∷ us) mark rest all ends =
+    let parts = and_parts (goes_on t) (list_all goes_on us) all in
+    let more = prefix_before us mark rest parts.1 ends in
+    rw parts.0 (omega arith)
+
+take_all : (ts : List Token) → take (length ts) ts ≡ ts
+take_all [] = refl
+take_all (t ∷ ts) = ap (λ l. t ∷ l) (take_all ts)
+
+drop_all : (ts : List Token) → drop (length ts) ts ≡ []
+drop_all [] = refl
+drop_all (t ∷ ts) = drop_all ts
+
+pub said_plain : (ts : List Token) (end : ℕ) → list_all goes_on ts ≡ true → said ts end ≡ statement ts end
+unfolding said
+said_plain ts end all =
+    ap (λ n. said_by (take n ts) end (drop n ts)) (prefix_all ts all)
+    ∙ ap (said_by (take (length ts) ts) end) (drop_all ts)
+    ∙ ap (λ us. statement us end) (take_all ts)
+
+pub said_closed : (us : List Token) (mark : Token) (rest : List Token) (end : ℕ) → list_all goes_on us ≡ true → goes_on mark ≡ false → said (us ++ mark ∷ rest) end ≡ closed us mark.from rest
+unfolding said
+said_closed us mark rest end all ends =
+    let ts = us ++ mark ∷ rest in
+    ap (λ n. said_by (take n ts) end (drop n ts)) (prefix_before us mark rest all ends)
+    ∙ ap (said_by (take (length us) ts) end) (drop-append_seam us (mark ∷ rest))
+    ∙ ap (λ before. closed before mark.from rest) (take-append_seam us (mark ∷ rest))
+
+-- tokens with no semicolon, or those before the first and those behind it
+pub record IsClosed (ts : List Token) : Type 0 where
+  pub before : List Token
+  pub mark : Token
+  pub rest : List Token
+  pub split : ts ≡ before ++ mark ∷ rest
+  pub inside : list_all goes_on before ≡ true
+  pub ends : goes_on mark ≡ false
+
+pub first_mark : (ts : List Token) → (list_all goes_on ts ≡ true) ⊎ IsClosed ts
+first_mark [] = inl refl
+first_mark (t ∷ ts) = by (goes_on t) refl (first_mark ts)
+  where
+    by : (b : Bool) → goes_on t ≡ b → (list_all goes_on ts ≡ true) ⊎ IsClosed ts → (list_all goes_on (t ∷ ts) ≡ true) ⊎ IsClosed (t ∷ ts)
+    by true is (inl all) = inl (rw (is, all) refl)
+    by true is (inr c) = inr (record { before = t ∷ c.before; mark = c.mark; rest = c.rest; split = ap (λ l. t ∷ l) c.split; inside = rw (is, c.inside) refl; ends = c.ends })
+    by false is _ = inr (record { before = []; mark = t; rest = ts; split = refl; inside = refl; ends = is })
+
+-- ---- what is read stands in the words
+
+pub mark_word : (byte : ℕ) (w : Word) → is_mark byte w ≡ true → w ≡ word.Mark byte 0
+mark_word byte (word.Mark a b) is =
+    let parts = and_parts (a == byte) (b == 0) is in
+    let first : a ≡ byte = (let e = parts.0 in grind (arith, nat_tests)) in
+    let second : b ≡ 0 = (let e = parts.1 in grind (arith, nat_tests)) in
+    ap (λ m. word.Mark m b) first ∙ ap (word.Mark byte) second
+mark_word byte (word.Key k) is = absurd cc
+mark_word byte (word.Name t) is = absurd cc
+mark_word byte (word.Number n) is = absurd cc
+mark_word byte (word.Text t) is = absurd cc
+
+pub is_semicolon : (w : Word) → not (is_mark 59 w) ≡ false → is_mark 59 w ≡ true
+is_semicolon w = by (is_mark 59 w)
+  where
+    by : (b : Bool) → not b ≡ false → b ≡ true
+    by true is = refl
+    by false is = absurd cc
+
+session_word : (w : Word) (n : ℕ) → session_of w ≡ Some n → (w ≡ word.Number n) × IsSession n
+session_word (word.Number m) n is = by (m == 1) refl is
+  where
+    by : (b : Bool) → (m == 1) ≡ b → cond b (Some 1) None ≡ Some n → (word.Number m ≡ word.Number n) × IsSession n
+    by true at e =
+        let one : 1 ≡ n = cc in
+        let number : m ≡ 1 = grind (arith, nat_tests) in
+        (ap word.Number (number ∙ one), sym one)
+    by false at e = absurd cc
+session_word (word.Key k) n is = absurd cc
+session_word (word.Name t) n is = absurd cc
+session_word (word.Text t) n is = absurd cc
+session_word (word.Mark a b) n is = absurd cc
+
+alone_ok : (r : Result Statement ParseFault) (rest : List Token) (s : Statement) → alone r rest ≡ Ok s → (rest ≡ []) × (r ≡ Ok s)
+alone_ok (Ok x) [] s is = (refl, is)
+alone_ok (Ok x) (t ∷ ts) s is = absurd cc
+alone_ok (Err f) rest s is = absurd cc
+
+abbrev IsSaid : ℕ → List Token → Statement → Type 0
+IsSaid n ts s = IsBody (word.Number n ∷ word.Mark 58 0 ∷ words ts) (line.Says n s)
+
+said_words : (n : ℕ) → IsSession n → (ts : List Token) (end : ℕ) (s : Statement) → said ts end ≡ Ok s → IsSaid n ts s
+unfolding closed
+said_words n session ts end s is = by (first_mark ts)
+  where
+    by : (list_all goes_on ts ≡ true) ⊎ IsClosed ts → IsSaid n ts s
+    by (inl all) = IsBody.plain n (words ts) s session (answered ts end (Ok s) (sym (said_plain ts end all) ∙ is))
+    by (inr c) =
+        let found : closed c.before c.mark.from c.rest ≡ Ok s = sym (said_closed c.before c.mark c.rest end c.inside c.ends) ∙ ap (λ us. said us end) (sym c.split) ∙ is in
+        let parts = alone_ok (statement c.before c.mark.from) c.rest s found in
+        let last : words (c.mark ∷ c.rest) ≡ word.Mark 59 0 ∷ [] =
+        ap (λ rest. words (c.mark ∷ rest)) parts.0 ∙ ap (λ w. w ∷ []) (mark_word 59 c.mark.word (is_semicolon c.mark.word c.ends)) in
+        let all : words ts ≡ words c.before ++ word.Mark 59 0 ∷ [] =
+        ap words c.split ∙ map-append (λ (t : Token). t.word) c.before (c.mark ∷ c.rest) ∙ ap (λ l. words c.before ++ l) last in
+        subst (λ ws. IsBody (word.Number n ∷ word.Mark 58 0 ∷ ws) (line.Says n s)) (sym all)
+        (IsBody.closed n (words c.before) s session (answered c.before c.mark.from (Ok s) parts.1))
+
+says_ok : (n : ℕ) (r : Result Statement ParseFault) (what : Line) → says n r ≡ Ok what → (s : Statement) × (r ≡ Ok s) × (line.Says n s ≡ what)
+says_ok n (Ok s) what is = let same : line.Says n s ≡ what = cc in (s, refl, same)
+says_ok n (Err f) what is = absurd cc
+
+behind_words : (n : ℕ) → IsSession n → (ts : List Token) (end : ℕ) (what : Line) → behind_session n ts end ≡ Ok what → IsBody (word.Number n ∷ words ts) what
+behind_words n session [] end what is = absurd cc
+behind_words n session (t ∷ ts) end what is = by (is_mark 58 t.word) refl is
+  where
+    by : (b : Bool) → is_mark 58 t.word ≡ b → cond b (says n (said ts end)) (misfit (t ∷ ts) end) ≡ Ok what → IsBody (word.Number n ∷ words (t ∷ ts)) what
+    by true at e =
+        let found = says_ok n (said ts end) what e in
+        subst (λ w. IsBody (word.Number n ∷ w ∷ words ts) what) (sym (mark_word 58 t.word at))
+        (subst (IsBody (word.Number n ∷ word.Mark 58 0 ∷ words ts)) found.2 (said_words n session ts end found.0 found.1))
+    by false at e = absurd cc
+
+pub body_words : (ts : List Token) (end : ℕ) (what : Line) → body ts end ≡ Ok what → IsBody (words ts) what
+unfolding body
+body_words [] end what is = absurd cc
+body_words (t ∷ ts) end what is = by (session_of t.word) refl is
+  where
+    by : (found : Option ℕ) → session_of t.word ≡ found → by_session found t ts end ≡ Ok what → IsBody (words (t ∷ ts)) what
+    by (Some n) at e =
+        let session = session_word t.word n at in
+        subst (λ w. IsBody (w ∷ words ts) what) (sym session.0) (behind_words n session.1 ts end what e)
+    by None at e = absurd cc
+
+-- ---- what stands in the words is read
+
+split_words : (us vs : List Word) (ts : List Token) → words ts ≡ us ++ vs → (before : List Token) × (rest : List Token) × (ts ≡ before ++ rest) × (words before ≡ us) × (words rest ≡ vs)
+split_words [] vs ts is = ([], ts, refl, refl, is)
+split_words (u ∷ us) vs [] is = absurd cc
+split_words (u ∷ us) vs (t ∷ ts) is =
+    let head : t.word ≡ u = cc in
+    let tail : words ts ≡ us ++ vs = cc in
+    let more = split_words us vs ts tail in
+    (t ∷ more.0, more.1, ap (λ l. t ∷ l) more.2, ap (λ w. w ∷ words more.0) head ∙ ap (λ l. u ∷ l) more.3, more.4)
+
+all_words : (ts : List Token) → list_all goes (words ts) ≡ list_all goes_on ts
+all_words [] = refl
+all_words (t ∷ ts) = ap (λ b. goes_on t && b) (all_words ts)
+
+statement_read : (ts : List Token) (end : ℕ) (ws : List Word) (s : Statement) → words ts ≡ ws → Says ws s → statement ts end ≡ Ok s
+unfolding statement
+statement_read ts end ws s is says = ap (answer ts end) (whole_read (words ts) s (subst (λ l. Says l s) (sym is) says))
+
+open_tokens : (ts : List Token) (ws : List Word) (s : Statement) → words ts ≡ ws → Says ws s → list_all goes_on ts ≡ true
+open_tokens ts ws s is says = sym (all_words ts) ∙ ap (list_all goes) is ∙ said_free ws s says
+
+session_read : (n : ℕ) → IsSession n → (t c : Token) (ts : List Token) (end : ℕ) (s : Statement) → t.word ≡ word.Number n → c.word ≡ word.Mark 58 0 → said ts end ≡ Ok s
+    → body (t ∷ c ∷ ts) end ≡ Ok (line.Says n s)
+unfolding body
+session_read n session t c ts end s number colon is =
+    ap (λ w. by_session (session_of w) t (c ∷ ts) end) (number ∙ ap word.Number session)
+    ∙ ap (λ w. cond (is_mark 58 w) (says 1 (said ts end)) (misfit (c ∷ ts) end)) colon
+    ∙ ap (says 1) is
+    ∙ ap (λ m. Ok (line.Says m s)) (sym session)
+
+two_words : (v w : Word) (ws : List Word) (ts : List Token) → words ts ≡ v ∷ w ∷ ws → (t : Token) × (c : Token) × (us : List Token) × (ts ≡ t ∷ c ∷ us) × (t.word ≡ v) × (c.word ≡ w) × (words us ≡ ws)
+two_words v w ws [] is = absurd cc
+two_words v w ws (t ∷ []) is = absurd cc
+two_words v w ws (t ∷ c ∷ us) is = (t, c, us, refl, cc, cc, cc)
+
+closed_read : (us : List Token) (mark : Token) (end : ℕ) (ws : List Word) (s : Statement) → words us ≡ ws → Says ws s → mark.word ≡ word.Mark 59 0 → said (us ++ mark ∷ []) end ≡ Ok s
+unfolding closed
+closed_read us mark end ws s is says at =
+    said_closed us mark [] end (open_tokens us ws s is says) (ap goes at)
+    ∙ ap (λ r. alone r []) (statement_read us mark.from ws s is says)
+
+one_word : (w : Word) (ts : List Token) → words ts ≡ w ∷ [] → (t : Token) × (ts ≡ t ∷ []) × (t.word ≡ w)
+one_word w [] is = absurd cc
+one_word w (t ∷ []) is = (t, refl, cc)
+one_word w (t ∷ u ∷ ts) is = absurd cc
+
+pub body_read : (ws : List Word) (what : Line) → IsBody ws what → (ts : List Token) (end : ℕ) → words ts ≡ ws → body ts end ≡ Ok what
+body_read _ _ (IsBody.plain n us s session says) ts end is =
+    let two = two_words (word.Number n) (word.Mark 58 0) us ts is in
+    ap (λ l. body l end) two.3
+    ∙ session_read n session two.0 two.1 two.2 end s two.4 two.5 (said_plain two.2 end (open_tokens two.2 us s two.6 says) ∙ statement_read two.2 end us s two.6 says)
+body_read _ _ (IsBody.closed n us s session says) ts end is =
+    let two = two_words (word.Number n) (word.Mark 58 0) (us ++ word.Mark 59 0 ∷ []) ts is in
+    let cut = split_words us (word.Mark 59 0 ∷ []) two.2 two.6 in
+    let last = one_word (word.Mark 59 0) cut.1 cut.4 in
+    let all : two.2 ≡ cut.0 ++ last.0 ∷ [] = cut.2 ∙ ap (λ l. cut.0 ++ l) last.1 in
+    ap (λ l. body l end) two.3
+    ∙ session_read n session two.0 two.1 two.2 end s two.4 two.5 (ap (λ l. said l end) all ∙ closed_read cut.0 last.0 end us s cut.3 says last.2)

@@ -1,0 +1,123 @@
+-- The first fault of a script: its line is the first that has one, and in that line all before its place fits.
+use Rattle.std.specs.Prelude.{◌≡◌, ◌<◌, ℕ, ◌+◌, Bool, true, false, nat_lt, List, [], ◌∷◌, ◌++◌, length, map, take, Option, Some, None, Result, Ok, Err, ◌⊎◌}
+use Rattle.std.specs.List.{list_all}
+use Rattle.sk_lex.specs.declared.token.Token.{Token}
+use Rattle.sk_lex.specs.declared.token.Word.{Word}
+use Rattle.sk_lex.specs.declared.token.Word.TheVariants as word
+use Rattle.sk_lex.specs.Front.{Text}
+use Rattle.sk_rows.specs.declared.statement.Statement.{Statement}
+use Rattle.sk_rows.specs.declared.table.Column.{Column}
+use Rattle.sk_rows.specs.declared.table.Table.{Table}
+use Rattle.sk_rows.specs.declared.value.Sort.TheVariants as sorts
+use Rattle.sk_rows.specs.Catalog.{add_fault}
+use Rattle.sk_parse.specs.Places.{IsFirstFault, words}
+use Rattle.sk_parse.specs.Saying.{Says}
+use Rattle.sk_parse.specs.Statements.{place_of}
+use Rattle.sk_script.specs.declared.script.Line.{Line}
+use Rattle.sk_script.specs.declared.script.Script.{Script}
+use Rattle.sk_script.specs.declared.script.ScriptFault.{ScriptFault}
+use Rattle.sk_script.specs.declared.script.ScriptFault.TheVariants as fault
+use Rattle.sk_script.specs.declared.script.TableLine.{TableLine}
+use Rattle.sk_script.specs.Body.{goes_on, session_of}
+use Rattle.sk_script.specs.Header.{engine_of, is_bool_key, new_column, new_table, sort_of}
+use Rattle.sk_script.specs.Legible.{legible}
+use Rattle.sk_script.specs.Rules.{IsBody, IsScript, IsTable, Makes}
+use Rattle.sk_script.specs.Script.{good_len, is_header, is_passed_over, pieces, without_return}
+
+-- no token follows, or one whose word is none of these
+abbrev pub Misses : {A : Type 0} → (Word → Option A) → List Token → Type 0
+Misses f [] = Unit {0}
+Misses f (t ∷ ts) = f t.word ≡ None
+
+abbrev pub IsNoMark : ℕ → List Token → Type 0
+IsNoMark byte [] = Unit {0}
+IsNoMark byte (t ∷ ts) = ¬ (t.word ≡ word.Mark byte 0)
+
+-- ---- lines that make tables
+
+-- two tokens are one more column behind these
+abbrev pub IsColumnAt : List Column → Token → Token → Column → Type 0
+IsColumnAt cs t u c = (new_column cs t.word ≡ Some c.name) × (sort_of u.word ≡ Some c.sort) × (is_bool_key cs c.sort ≡ false)
+
+-- Where the tokens from a column's name on are at fault, behind these columns.
+pub data ColumnFault (end : ℕ) : List Column → List Token → ℕ → Type 0 where
+  -- no name, the name of a column before it, or one column too many
+  name : (cs : List Column) (ts : List Token) → Misses (new_column cs) ts → ColumnFault end cs ts (place_of end ts)
+  sort : (cs : List Column) (t : Token) (ts : List Token) (name : List ℕ) → new_column cs t.word ≡ Some name → Misses sort_of ts → ColumnFault end cs (t ∷ ts) (place_of end ts)
+  -- a key of sort Bool is at fault at its name
+  bool_key : (t u : Token) (ts : List Token) (name : List ℕ) → new_column [] t.word ≡ Some name → sort_of u.word ≡ Some sorts.Bool → ColumnFault end [] (t ∷ u ∷ ts) (t.from + 1)
+  -- neither a comma nor the end
+  behind : (cs : List Column) (t u v : Token) (ts : List Token) (c : Column) → IsColumnAt cs t u c → ¬ (v.word ≡ word.Mark 44 0) → ColumnFault end cs (t ∷ u ∷ v ∷ ts) (v.from + 1)
+  later : (cs : List Column) (t u v : Token) (ts : List Token) (c : Column) (place : ℕ) → IsColumnAt cs t u c → v.word ≡ word.Mark 44 0 → ColumnFault end (cs ++ c ∷ []) ts place
+      → ColumnFault end cs (t ∷ u ∷ v ∷ ts) place
+
+-- Where the tokens behind TABLE are at fault.
+pub data TableFault (tables : List TableLine) (end : ℕ) : List Token → ℕ → Type 0 where
+  -- no name, the name of a table before it, or one table too many
+  name : (ts : List Token) → Misses (new_table tables) ts → TableFault tables end ts (place_of end ts)
+  engine : (t : Token) (ts : List Token) (name : List ℕ) → new_table tables t.word ≡ Some name → Misses engine_of ts → TableFault tables end (t ∷ ts) (place_of end ts)
+  columns : (t u : Token) (ts : List Token) (name : List ℕ) (store : Bool) (place : ℕ) → new_table tables t.word ≡ Some name → engine_of u.word ≡ Some store → ColumnFault end [] ts place
+      → TableFault tables end (t ∷ u ∷ ts) place
+
+-- ---- lines of a session
+
+-- Where the tokens of a session's line are at fault. A statement's own fault is its first by its grammar.
+pub data BodyFault (end : ℕ) : List Token → ℕ → Type 0 where
+  session : (ts : List Token) → Misses session_of ts → BodyFault end ts (place_of end ts)
+  colon : (t : Token) (ts : List Token) (n : ℕ) → session_of t.word ≡ Some n → IsNoMark 58 ts → BodyFault end (t ∷ ts) (place_of end ts)
+  plain : (t c : Token) (ts : List Token) (n place : ℕ) → session_of t.word ≡ Some n → c.word ≡ word.Mark 58 0 → list_all goes_on ts ≡ true → IsFirstFault ts end place
+      → BodyFault end (t ∷ c ∷ ts) place
+  -- the statement ends where the first semicolon stands
+  closed : (t c : Token) (us : List Token) (m : Token) (ts : List Token) (n place : ℕ) → session_of t.word ≡ Some n → c.word ≡ word.Mark 58 0 → list_all goes_on us ≡ true → m.word ≡ word.Mark 59 0
+      → IsFirstFault us m.from place → BodyFault end (t ∷ c ∷ us ++ m ∷ ts) place
+  behind : (t c : Token) (us : List Token) (m v : Token) (ts : List Token) (n : ℕ) (s : Statement) → session_of t.word ≡ Some n → c.word ≡ word.Mark 58 0 → m.word ≡ word.Mark 59 0 → Says (words us) s
+      → BodyFault end (t ∷ c ∷ us ++ m ∷ v ∷ ts) (v.from + 1)
+
+-- ---- one line
+
+-- tokens behind the first
+abbrev pub rest_of : List Token → List Token
+rest_of [] = []
+rest_of (t ∷ ts) = ts
+
+-- Where a line is at fault behind this script. The flag: a byte stands behind it which may not stand there. The fault
+-- is in what can be read of the line, or, where that fits, at the first byte that may not stand there.
+pub data LineFault (before : Script) (long : Bool) (line : Text) : ℕ → Type 0 where
+  passed : is_passed_over line ≡ true → (long ≡ true) ⊎ (good_len line < length line) → LineFault before long line (good_len line + 1)
+  table : (place : ℕ) → is_passed_over line ≡ false → is_header before.lines (legible long line).tokens ≡ true
+      → TableFault before.tables (legible long line).end (rest_of (legible long line).tokens) place → LineFault before long line place
+  body : (place : ℕ) → is_passed_over line ≡ false → is_header before.lines (legible long line).tokens ≡ false
+      → BodyFault (legible long line).end (legible long line).tokens place → LineFault before long line place
+  spoilt_table : (t : Table) → is_passed_over line ≡ false → before.lines ≡ [] → IsTable (words (legible long line).tokens) t → add_fault (map (λ l. l.table) before.tables) t ≡ None
+      → (legible long line).spoilt ≡ true → LineFault before long line ((legible long line).end + 1)
+  spoilt_body : (what : Line) → is_passed_over line ≡ false → IsBody (words (legible long line).tokens) what → (legible long line).spoilt ≡ true
+      → LineFault before long line ((legible long line).end + 1)
+
+-- ---- a script
+
+-- the line that a piece is, where these stand behind it
+abbrev pub line_of : Text → List Text → Text
+line_of piece [] = piece
+line_of piece (next ∷ more) = without_return piece
+
+-- the last line alone has what stands past the limit of scripts behind it
+abbrev pub is_cut : Bool → List Text → Bool
+is_cut long [] = long
+is_cut long (next ∷ more) = false
+
+-- The lines before this one make a script, and in the line, behind that script, this is the place of the fault.
+pub record IsFirstFaultAt (bytes : Text) (n place : ℕ) : Type 0 where
+  pub before : List Text
+  pub piece : Text
+  pub behind : List Text
+  pub cut : pieces (take 16777216 bytes) ≡ before ++ piece ∷ behind
+  pub number : n ≡ 1 + length before
+  pub script : Script
+  pub made : Makes (map without_return before) script
+  pub fault : LineFault script (is_cut (nat_lt 16777216 (length bytes)) behind) (line_of piece behind) place
+
+-- What came back for the bytes: they are that script; or they are none, and the fault is their first.
+abbrev pub IsAnswer : Text → Result Script ScriptFault → Type 0
+IsAnswer bytes (Ok script) = IsScript bytes script
+IsAnswer bytes (Err (fault.At n place)) = ((script : Script) → ¬ IsScript bytes script) × IsFirstFaultAt bytes n place
+IsAnswer bytes (Err fault.NoMemory) = Unit {0}
