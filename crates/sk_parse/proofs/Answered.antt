@@ -12,7 +12,8 @@ use Rattle.sk_parse.specs.declared.fault.ParseFault.TheVariants as fault
 use Rattle.sk_parse.specs.Input.{Input, Outcome, refuse}
 use Rattle.sk_parse.specs.Places.{IsAnswer, IsFirstFault, IsRefused, words}
 use Rattle.sk_parse.specs.Saying.{Says}
-use Rattle.sk_parse.specs.Statements.{Gives, answer, place, place_of, said, statement, whole}
+use Rattle.sk_rows.specs.Memory.{Gives}
+use Rattle.sk_parse.specs.Statements.{answer, place, place_of, said, statement, wants_memory, whole}
 use Rattle.sk_parse.proofs.CompleteStatement.{whole_read}
 use Rattle.sk_parse.proofs.Local.{refused_rightly}
 use Rattle.sk_parse.proofs.Reached.{reached}
@@ -83,7 +84,7 @@ first_fault tokens end n failed =
       next_refused (words (take k tokens)) (drop k tokens) here,
     )
 
-pub answered : (tokens : List Token) (end : ℕ) (r : Result Statement ParseFault) → Gives tokens end r → IsAnswer tokens end r
+pub answered : (tokens : List Token) (end : ℕ) (r : Result Statement ParseFault) → Gives wants_memory r (statement tokens end) → IsAnswer tokens end r
 unfolding statement
 answered tokens end (Ok s) gives = by (whole (words tokens)) refl gives
   where

@@ -1,8 +1,10 @@
 pub mod Answered
+pub mod Chains
 pub mod Complete
 pub mod CompleteStatement
 pub mod Levels
 pub mod Local
+pub mod Nesting
 pub mod Pinned
 pub mod Prints
 pub mod Reached

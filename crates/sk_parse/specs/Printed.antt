@@ -80,6 +80,13 @@ print_step (Expr-F.Two o a b) at = wrapped (nat_lt (strength o) at) (a (left_at 
 abbrev pub printed : Expr → ℕ → List Word
 printed = fold-Expr (ℕ → List Word) print_step
 
+-- how many more are open within a NOT or an operator at the place of a rule
+abbrev pub opened_by_not : ℕ → ℕ
+opened_by_not at = if nat_lt 2 at then 2 else 1
+
+abbrev pub opened_by : Op → ℕ → ℕ
+opened_by o at = if nat_lt (strength o) at then 1 else 0
+
 -- how many NOTs and parentheses are then open together
 abbrev pub nest_step : Expr-F (ℕ → ℕ) → ℕ → ℕ
 nest_step (Expr-F.Lit v) at = 0

@@ -1,5 +1,5 @@
 -- The rules of statements.
-use Rattle.std.specs.Prelude.{◌≡◌, ◌≤◌, ℕ, ◌+◌, ◌-◌, if◌then◌else◌, ◌==◌, List, [], ◌∷◌, length, drop, map, Option, Some, None, Result, Ok, Err}
+use Rattle.std.specs.Prelude.{◌≤◌, ℕ, ◌+◌, ◌-◌, Bool, true, false, if◌then◌else◌, ◌==◌, List, [], ◌∷◌, length, drop, map, Option, Some, None, Result, Ok, Err}
 use Rattle.sk_lex.specs.declared.token.Keyword.{Keyword}
 use Rattle.sk_lex.specs.declared.token.Keyword.TheVariants as key
 use Rattle.sk_lex.specs.declared.token.Token.{Token}
@@ -120,8 +120,7 @@ IsPlace end (Ok s) = Unit {0}
 IsPlace end (Err (fault.Unexpected p)) = (1 ≤ p) × (p ≤ end + 1)
 IsPlace end (Err fault.NoMemory) = Unit {0}
 
--- what came back is what was meant, unless memory ran out
-abbrev pub Gives : List Token → ℕ → Result Statement ParseFault → Type 0
-Gives tokens end (Ok s) = statement tokens end ≡ Ok s
-Gives tokens end (Err (fault.Unexpected p)) = statement tokens end ≡ Err (fault.Unexpected p)
-Gives tokens end (Err fault.NoMemory) = Unit {0}
+-- whether the fault is want of memory
+abbrev pub wants_memory : ParseFault → Bool
+wants_memory (fault.Unexpected p) = false
+wants_memory fault.NoMemory = true

@@ -15,6 +15,17 @@ pub enum ParseFault {
     NoMemory,
 }
 
+impl From<NoMemory> for ParseFault {
+    ghost use Rattle.std.specs.Prelude.{◌≡◌};
+    ghost use Rattle.sk_parse.specs.declared.fault.ParseFault.TheVariants as fault;
+
+    ghost from_gives = { λ _ e. e ≡ fault.NoMemory };
+
+    fn from(_e: NoMemory) -> ParseFault {
+        ParseFault::NoMemory
+    }
+}
+
 /// Why a rule of the grammar does not read.
 #[derive(Clone, Copy, Debug, PartialEq, Eq)]
 pub enum Fault {

@@ -43,9 +43,8 @@ impl Parses for Value {
     }
 }
 
-/// One or more, with commas between.
 #[tactic(auto, unfolding(crate::specs::Input::listed, crate::specs::Input::listed_from))]
-pub fn listed<T: Parses>(alloc: Global, cursor: &mut Cursor<'_>) -> Result<List<T>, Fault>
+fn collected<T: Parses>(alloc: Global, cursor: &mut Cursor<'_>) -> Result<List<T>, Fault>
     ensures { Reads (spec.listed T.parser cursor.old) result cursor.new }
 {
     let mut found = List::new(alloc);
@@ -56,5 +55,14 @@ pub fn listed<T: Parses>(alloc: Global, cursor: &mut Cursor<'_>) -> Result<List<
         }
         found.push(T::parse(alloc, cursor)?)?;
     }
+    Ok(found)
+}
+
+/// One or more, with commas between. The list has room for these and no more.
+pub fn listed<T: Parses>(alloc: Global, cursor: &mut Cursor<'_>) -> Result<List<T>, Fault>
+    ensures { Reads (spec.listed T.parser cursor.old) result cursor.new }
+{
+    let mut found = collected(alloc, cursor)?;
+    found.shrink_to_fit();
     Ok(found)
 }

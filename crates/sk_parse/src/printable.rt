@@ -6,7 +6,7 @@ ghost use Rattle.sk_rows.specs.Names.{is_name as is_name_of};
 ghost use Rattle.sk_parse.specs.Printed as spec;
 
 use crate::printing::{left_at, right_at, strength};
-use sk_rows::{Expr, NameList, SetItem, Statement, Txt, Value, is_name};
+use sk_rows::{Expr, NameList, Op, SetItem, Statement, Txt, Value, is_name};
 
 /// How many NOTs and parentheses may be open together.
 const NESTING: usize = 64;
@@ -37,38 +37,71 @@ fn is_literal(value: &Value) -> bool
     }
 }
 
+#[tactic(auto, using(crate::proofs::Nesting::spelled_left, crate::proofs::Nesting::unspelled_right))]
 fn can_be_spelled(e: &Expr) -> bool
     ensures { result ≡ spec.can_be_spelled e.now }
 {
-    match e {
-        Expr::Lit(v) => is_literal(v),
-        Expr::Col(t) => is_name(t.as_slice()),
-        Expr::Not(a) => can_be_spelled(a.get()),
-        Expr::Two(_, a, b) => can_be_spelled(a.get()) && can_be_spelled(b.get()),
+    let mut left = e;
+    loop {
+        match left {
+            Expr::Lit(v) => return is_literal(v),
+            Expr::Col(t) => return is_name(t.as_slice()),
+            Expr::Not(a) => left = a.get(),
+            Expr::Two(_, a, b) => {
+                if !can_be_spelled(b.get()) {
+                    return false;
+                }
+                left = a.get();
+            }
+        }
     }
 }
 
+/// How many more are open within a NOT at the place of a rule.
+fn opened_by_not(at: u8) -> usize
+    ensures { result ≡ spec.opened_by_not at }
+{
+    if 2 < at { 2 } else { 1 }
+}
+
+/// How many more are open within an operator at the place of a rule.
+fn opened_by(op: Op, at: u8) -> usize
+    ensures { result ≡ spec.opened_by op at }
+{
+    if strength(op) < at { 1 } else { 0 }
+}
+
 /// Whether at most `limit` NOTs and parentheses are open together where the expression stands at the place of a rule.
+#[tactic(auto, using(crate::proofs::Nesting::nesting_not, crate::proofs::Nesting::nesting_two))]
 fn nests_within(e: &Expr, at: u8, limit: usize) -> bool
     ensures { IsTrue result ↔ (spec.nesting e.now at ≤ limit) }
 {
-    match e {
-        Expr::Lit(_) | Expr::Col(_) => true,
-        Expr::Not(a) => {
-            if 2 < at {
-                2 <= limit && nests_within(a.get(), 2, limit - 2)
-            } else {
-                1 <= limit && nests_within(a.get(), 2, limit - 1)
+    let mut left = e;
+    let mut place = at;
+    let mut room = limit;
+    loop {
+        match left {
+            Expr::Lit(_) | Expr::Col(_) => return true,
+            Expr::Not(a) => {
+                let opened = opened_by_not(place);
+                if room < opened {
+                    return false;
+                }
+                room -= opened;
+                place = 2;
+                left = a.get();
             }
-        }
-        Expr::Two(op, a, b) => {
-            if strength(*op) < at {
-                1 <= limit
-                    && nests_within(a.get(), left_at(*op), limit - 1)
-                    && nests_within(b.get(), right_at(*op), limit - 1)
-            } else {
-                nests_within(a.get(), left_at(*op), limit)
-                    && nests_within(b.get(), right_at(*op), limit)
+            Expr::Two(op, a, b) => {
+                let opened = opened_by(*op, place);
+                if room < opened {
+                    return false;
+                }
+                room -= opened;
+                if !nests_within(b.get(), right_at(*op), room) {
+                    return false;
+                }
+                place = left_at(*op);
+                left = a.get();
             }
         }
     }

@@ -6,10 +6,12 @@ ghost use Rattle.sk_lex.specs.declared.token.Word.TheVariants as word;
 ghost use Rattle.sk_rows.specs.declared.value.Value.TheVariants as value;
 ghost use Rattle.sk_lex.specs.Spelling as spelling;
 ghost use Rattle.sk_parse.specs.Spelled as spec;
+ghost use Rattle.sk_rows.specs.Spine.{first_of};
 ghost use Rattle.sk_parse.specs.Printed as print;
+ghost use Rattle.sk_parse.specs.Chains as chain;
 
 use sk_lex::Keyword;
-use sk_rows::{Expr, NoMemory, Op, Value};
+use sk_rows::{Expr, First, NoMemory, Op, Operation, Value};
 
 fn put_bytes(out: &mut Vec<u8>, bytes: &[u8]) -> Result<(), NoMemory>
     ensures { OnOk result (out.new.items ≡ out.old.items ++ bytes.now) }
@@ -225,26 +227,70 @@ fn put_close(out: &mut Vec<u8>, asked: bool) -> Result<(), NoMemory>
     if asked { put_mark(out, 41, 0) } else { Ok(()) }
 }
 
+fn put_opens(
+    out: &mut Vec<u8>,
+    mut operations: &[Operation<'_>],
+    mut at: u8,
+) -> Result<(), NoMemory>
+    ensures { OnOk result (out.new.items ≡ out.old.items ++ chain.opens operations.entry.now at) }
+{
+    while let [operation, rest @ ..] = operations {
+        put_open(out, strength(operation.op) < at)?;
+        at = left_at(operation.op);
+        operations = rest;
+    }
+    Ok(())
+}
+
+/// The rule at whose place the left side of these operations stands, the outermost of them at the place `at`.
+#[tactic(auto, using(crate::proofs::Chains::place_push))]
+fn place_in(operations: &[Operation<'_>], at: u8) -> u8
+    ensures { result ≡ chain.place_in operations.now at }
+{
+    match operations {
+        [] => at,
+        [.., last] => left_at(last.op),
+    }
+}
+
+#[cycle(expression)]
+fn put_first(out: &mut Vec<u8>, first: First<'_>, at: u8) -> Result<(), NoMemory>
+    ensures { OnOk result (out.new.items ≡ out.old.items ++ spec.text (first_of first.entry) at) }
+{
+    match first {
+        First::Lit(v) => put_literal(out, v),
+        First::Col(t) => put_name(out, t.as_slice()),
+        First::Not(a) => {
+            put_open(out, 2 < at)?;
+            put_key(out, Keyword::Not)?;
+            put_expr(out, a, 2)?;
+            put_close(out, 2 < at)
+        }
+    }
+}
+
+/// What stands behind the left side of an operation that is at the place of a rule.
+#[cycle(expression)]
+fn put_behind(out: &mut Vec<u8>, operation: Operation<'_>, at: u8) -> Result<(), NoMemory>
+    ensures { OnOk result (out.new.items ≡ out.old.items ++ chain.behind_one operation.entry at) }
+{
+    put_op(out, operation.op)?;
+    put_expr(out, operation.right, right_at(operation.op))?;
+    put_close(out, strength(operation.op) < at)
+}
+
 /// What stands at the place of a rule, in parentheses where the grammar asks for them.
+#[cycle(expression)]
+#[tactic(auto, using(sk_rows::proofs::Spines::below_pop, crate::proofs::Chains::text_joined, crate::proofs::Chains::behind_pop))]
 pub fn put_expr(out: &mut Vec<u8>, e: &Expr, at: u8) -> Result<(), NoMemory>
     ensures { OnOk result (out.new.items ≡ out.old.items ++ spec.text e.now at) }
 {
-    match e {
-        Expr::Lit(v) => put_literal(out, v),
-        Expr::Col(t) => put_name(out, t.as_slice()),
-        Expr::Not(a) => {
-            put_open(out, 2 < at)?;
-            put_key(out, Keyword::Not)?;
-            put_expr(out, a.get(), 2)?;
-            put_close(out, 2 < at)
-        }
-        Expr::Two(op, a, b) => {
-            let asked = strength(*op) < at;
-            put_open(out, asked)?;
-            put_expr(out, a.get(), left_at(*op))?;
-            put_op(out, *op)?;
-            put_expr(out, b.get(), right_at(*op))?;
-            put_close(out, asked)
-        }
+    let spine = e.spine(*out.allocator())?;
+    let mut operations = spine.operations;
+    put_opens(out, operations.as_slice(), at)?;
+    put_first(out, spine.first, place_in(operations.as_slice(), at))?;
+    while let Some(operation) = operations.pop() {
+        put_behind(out, operation, place_in(operations.as_slice(), at))?;
     }
+    Ok(())
 }

@@ -1,6 +1,7 @@
 //! Statements.
 
 ghost use Rattle.std.specs.Prelude.{◌≡◌, ◌<◌, ◌≤◌, ◌+◌, All};
+ghost use Rattle.sk_rows.specs.Memory.{Gives};
 ghost use Rattle.sk_parse.specs.Input.{Reads};
 ghost use Rattle.sk_parse.specs.Places.{IsAnswer};
 ghost use Rattle.sk_parse.specs.Statements as spec;
@@ -192,7 +193,7 @@ fn place(tokens: &[Token], end: u32, left: usize) -> u32
 fn answer(alloc: Global, tokens: &[Token], end: u32) -> Result<Statement, ParseFault>
     requires short { end < 4294967295 }
     requires before { All (λ t. t.from < end) tokens.now }
-    ensures exact { spec.Gives tokens.now end result }
+    ensures exact { Gives spec.wants_memory result (spec.statement tokens.now end) }
     ensures place { spec.IsPlace end result }
 {
     let mut cursor = Cursor::new(tokens);
@@ -212,7 +213,7 @@ fn answer(alloc: Global, tokens: &[Token], end: u32) -> Result<Statement, ParseF
 pub fn statement(alloc: Global, tokens: &[Token], end: u32) -> Result<Statement, ParseFault>
     requires short { end < 4294967295 }
     requires before { All (λ t. t.from < end) tokens.now }
-    ensures exact { spec.Gives tokens.now end result }
+    ensures exact { Gives spec.wants_memory result (spec.statement tokens.now end) }
     ensures place { spec.IsPlace end result }
     ensures grammar { IsAnswer tokens.now end result }
 {

@@ -87,6 +87,13 @@ impl<T> List<T> {
     {
         self.items.push(item)
     }
+
+    /// Gives back the room that no item takes, as far as there is memory to move to less.
+    pub fn shrink_to_fit(&mut self)
+        ensures { self.new ≡ self.old }
+    {
+        self.items.shrink_to_fit();
+    }
 }
 
 impl<T: Drop> List<T> {
