@@ -2,6 +2,7 @@ pub mod Lists
 pub mod Numbers
 pub mod Labels
 pub mod Lookups
+pub mod Places
 pub mod Nets
 pub mod Quiet
 pub mod Order
