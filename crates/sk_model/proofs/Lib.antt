@@ -3,6 +3,7 @@ pub mod Numbers
 pub mod Labels
 pub mod Lookups
 pub mod ByTable
+pub mod Places
 pub mod Nets
 pub mod Quiet
 pub mod Order

@@ -8,7 +8,7 @@ use Rattle.std.proofs.lemmas.List.{length-append}
 use Rattle.std.proofs.lemmas.List.Elements.{filter-append}
 use Rattle.sk_model.specs.declared.commit.Commit.{Commit}
 use Rattle.sk_model.specs.Places.{upto, is_wanted, place}
-use Rattle.sk_weave.proofs.Places.{place_push}
+use Rattle.sk_model.proofs.Places.{place_push}
 use Rattle.sk_plain.specs.Desk.{Drawn}
 use Rattle.sk_plain.specs.Playing.{after_draw}
 use Rattle.sk_plain.specs.Standing.{drawn, mem_count, store_count}

@@ -12,7 +12,7 @@ use Rattle.sk_model.specs.declared.commit.Write.{Write}
 use Rattle.sk_model.specs.declared.commit.Commit.{Commit}
 use Rattle.sk_model.specs.Records.{clashes, FirstWins, same_label, own_place}
 use Rattle.sk_model.specs.Places.{is_wanted, place}
-use Rattle.sk_weave.proofs.Alone.{Ends, ends}
+use Rattle.sk_model.proofs.Places.{Ends, ends}
 
 pub place_none : (cs : List Commit) (m s : Option ℕ) → list_any (is_wanted m s) cs ≡ false → place cs m s ≡ 0
 place_none [] m s e = refl

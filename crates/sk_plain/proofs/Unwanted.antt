@@ -11,7 +11,7 @@ use Rattle.sk_model.specs.Database.{hits}
 use Rattle.sk_model.specs.Records.{AtMost, clashes}
 use Rattle.sk_model.specs.Places.{upto, is_wanted, place}
 use Rattle.sk_model.proofs.Lists.{each_both, each_end, each_weaker}
-use Rattle.sk_weave.proofs.Alone.{Ends, ends}
+use Rattle.sk_model.proofs.Places.{Ends, ends}
 use Rattle.sk_plain.specs.Standing.{is_stored}
 use Rattle.sk_plain.proofs.Agreeing.{AllOf, Unused}
 use Rattle.sk_plain.proofs.Underway.{is_covered}

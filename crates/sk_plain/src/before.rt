@@ -111,7 +111,7 @@ pub(crate) fn writes_now(
 ) -> Result<WriteList, NoMemory>
     ensures { IfOk result (λ writes. writes ≡ writes_at (shown tables.now) before.now.entries) }
 {
-    let mut writes = WriteList::new(alloc);
+    let mut writes = WriteList::from_vec(Vec::with_capacity(alloc, before.len())?);
     for (place, _) in before {
         writes.push(write_of(alloc, tables, place)?)?;
     }

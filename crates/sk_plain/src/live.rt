@@ -41,6 +41,17 @@ pub(crate) fn start(alloc: Global, desk: &Desk, kind: TxKind) -> Live
     }
 }
 
+/// The statements as they are. The first finds room for itself alone, since most transactions say no more.
+fn with_room(alloc: Global, said: SaidList) -> Result<SaidList, NoMemory>
+    ensures { IfOk result (λ l. l ≡ said) }
+{
+    if said.is_empty() {
+        Ok(SaidList::from_vec(Vec::with_capacity(alloc, 1)?))
+    } else {
+        Ok(said)
+    }
+}
+
 /// The transaction with one more statement, which had this reply.
 #[tactic(auto, unfolding(crate::specs::Playing::hear))]
 pub(crate) fn hear(
@@ -51,12 +62,25 @@ pub(crate) fn hear(
 ) -> Result<Live, NoMemory>
     ensures { IfOk result (λ l. l ≡ spec.hear live statement reply.now) }
 {
-    let mut live = live;
-    live.said.push(Said {
+    let Live {
+        kind,
+        mem,
+        store,
+        said,
+        before,
+    } = live;
+    let mut said = with_room(alloc, said)?;
+    said.push(Said {
         statement,
         reply: reply.copy(alloc)?,
     })?;
-    Ok(live)
+    Ok(Live {
+        kind,
+        mem,
+        store,
+        said,
+        before,
+    })
 }
 
 fn snapshot(stored: bool, count: u32, taken: Option<u32>) -> Option<u32>

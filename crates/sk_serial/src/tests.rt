@@ -2,6 +2,7 @@ use super::*;
 use sk_model::Outcome;
 use sk_outside::{Failed, MemSink, MemSource, Sink, Source};
 use std::alloc::{AllocError, Global};
+use std::fmt::Write;
 use std::test::Fail;
 
 // The scripts of examples/, with their texts.
@@ -143,6 +144,56 @@ const REFUSALS_TEXT: &[&str] = &[
     "TX 1.5 cross 1 - 1 committed 2 - -\n",
 ];
 
+// Refused statements that take no snapshot, a row that is written and gone, rows that stay as they are, a transaction open at the end.
+const ENDINGS: &[&str] = &[
+    "TABLE s STORAGE id INT, v INT\n",
+    "1: INSERT INTO s VALUES (1, 1)\n",
+    "1: BEGIN\n",
+    "1: SELECT zz FROM s\n",
+    "1: INSERT INTO s VALUES (1, 5)\n",
+    "1: ROLLBACK\n",
+    "1: BEGIN\n",
+    "1: SELECT zz FROM s\n",
+    "1: COMMIT\n",
+    "1: BEGIN STORAGE\n",
+    "1: INSERT INTO s VALUES (2, 2)\n",
+    "1: DELETE FROM s WHERE id = 2\n",
+    "1: COMMIT\n",
+    "1: UPDATE s SET v = v\n",
+    "1: DELETE FROM s WHERE id = 99\n",
+    "1: BEGIN\n",
+    "1: INSERT INTO s VALUES (7, 7)\n",
+];
+
+const ENDINGS_TEXT: &[&str] = &[
+    "1: COUNT 1\n",
+    "1: OK 1.2\n",
+    "1: ERR column\n",
+    "1: ERR duplicate\n",
+    "1: ROLLEDBACK\n",
+    "1: OK 1.3\n",
+    "1: ERR column\n",
+    "1: COMMITTED\n",
+    "1: OK 1.4\n",
+    "1: COUNT 1\n",
+    "1: COUNT 1\n",
+    "1: COMMITTED\n",
+    "1: COUNT 1\n",
+    "1: COUNT 0\n",
+    "1: OK 1.7\n",
+    "1: COUNT 1\n",
+    "ORDER 1.1 - 1\n",
+    "ORDER 1.4 - 2\n",
+    "ORDER 1.5 - 3\n",
+    "TX 1.1 storage - 0 0 committed - 1 -\n",
+    "TX 1.2 cross 0 1 1 rolledback - - -\n",
+    "TX 1.3 cross 0 - 0 committed - - -\n",
+    "TX 1.4 storage - 1 1 committed - 2 -\n",
+    "TX 1.5 storage - 2 2 committed - 3 -\n",
+    "TX 1.6 storage - 3 3 committed - - -\n",
+    "TX 1.7 cross 0 3 3 rolledback - - -\n",
+];
+
 const ROOM: usize = 4096;
 
 fn joined(alloc: Global, lines: &[&str]) -> Result<String, AllocError> {
@@ -168,7 +219,7 @@ struct Row {
     text: &'static [&'static str],
 }
 
-const ROWS: [Row; 9] = [
+const ROWS: [Row; 10] = [
     Row {
         words: &["run", "d"],
         script: FIRST,
@@ -186,6 +237,12 @@ const ROWS: [Row; 9] = [
         script: REFUSALS,
         status: 0,
         text: REFUSALS_TEXT,
+    },
+    Row {
+        words: &["run", "d"],
+        script: ENDINGS,
+        status: 0,
+        text: ENDINGS_TEXT,
     },
     Row {
         words: &["run", "d"],
@@ -251,30 +308,70 @@ fn first_script(alloc: Global) -> Result<Vec<u8>, AllocError> {
     joined(alloc, ROWS[0].script)?.as_bytes().to_vec(alloc)
 }
 
-// Five texts of 255 bytes take 1,285 bytes in a file.
-#[test]
-fn a_row_too_large(rt: HostRuntime) -> Result<(), Fail> {
-    let alloc = rt.alloc();
+fn repeated(alloc: Global, piece: &str, times: u32) -> Result<String, AllocError> {
+    let mut text = String::new(alloc);
+    for _ in 0..times {
+        text.push_str(piece)?;
+    }
+    Ok(text)
+}
+
+/// A hundred rows, 64 NOTs, a line of 4,096 bytes, texts of 255 bytes and a row with four of them, which takes 1,030 bytes in a file.
+fn ordinary_script(alloc: Global) -> Result<String, AllocError> {
     let mut script = joined(
         alloc,
-        &["TABLE w STORAGE k TEXT, b TEXT, c TEXT, d TEXT, e TEXT\n1: INSERT INTO w VALUES ("],
+        &[
+            "TABLE a MEMORY id INT, v INT\n",
+            "TABLE w STORAGE k TEXT, b TEXT, c TEXT, d TEXT, e TEXT\n",
+            "1: BEGIN\n",
+        ],
     )?;
-    for at in 0..5 {
-        script.push_str(if at == 0 { "'" } else { ", '" })?;
-        for _ in 0..255 {
-            script.push_str("k")?;
-        }
-        script.push_str("'")?;
+    for id in 1..=100u32 {
+        write!(script, "1: INSERT INTO a VALUES ({id}, {id})\n")?;
     }
-    script.push_str(")\n")?;
+    let long = repeated(alloc, "k", 255)?;
+    write!(script, "1: INSERT INTO w VALUES ('{long}', '', '', '', '')\n1: COMMIT\n")?;
+    write!(script, "1: INSERT INTO w VALUES ('', '{long}', '{long}', '{long}', '{long}')\n")?;
+    script.push_str("1: UPDATE a SET v = v + 1\n")?;
+    let nots = repeated(alloc, "NOT ", 64)?;
+    write!(script, "1: SELECT v, id FROM a WHERE {nots}id > 99\n")?;
+    let zeros = repeated(alloc, " + 0", 1016)?;
+    write!(script, "1: SELECT v FROM a WHERE id = 50{zeros}\n")?;
+    script.push_str("1: SELECT k FROM w\n1: SELECT * FROM a\n")?;
+    Ok(script)
+}
+
+fn ordinary_text(alloc: Global) -> Result<String, AllocError> {
+    let mut text = joined(alloc, &["1: OK 1.1\n"])?;
+    for _ in 0..101u32 {
+        text.push_str("1: COUNT 1\n")?;
+    }
+    text.push_str("1: COMMITTED\n1: ERR size\n1: COUNT 100\n")?;
+    text.push_str("1: ROW 101, 100\n1: ROWS 1\n1: ROW 51\n1: ROWS 1\n")?;
+    let long = repeated(alloc, "k", 255)?;
+    write!(text, "1: ROW '{long}'\n1: ROWS 1\n")?;
+    for id in 1..=100u32 {
+        let v = id + 1;
+        write!(text, "1: ROW {id}, {v}\n")?;
+    }
+    text.push_str("1: ROWS 100\nORDER 1.1 1 1\nORDER 1.3 2 -\n")?;
+    text.push_str("TX 1.1 cross 0 0 0 committed 1 1 -\nTX 1.2 storage - 1 1 rolledback - - -\n")?;
+    text.push_str("TX 1.3 memory 1 - 1 committed 2 - -\nTX 1.4 memory 2 - 2 committed - - -\n")?;
+    text.push_str("TX 1.5 memory 2 - 2 committed - - -\nTX 1.6 storage - 1 1 committed - - -\n")?;
+    text.push_str("TX 1.7 memory 2 - 2 committed - - -\n")?;
+    Ok(text)
+}
+
+// What an ordinary script asks for is there, so that its run does not end for want of memory.
+#[test]
+fn an_ordinary_script(rt: HostRuntime) -> Result<(), Fail> {
+    let alloc = rt.alloc();
+    let script = ordinary_script(alloc)?;
     let mut source = MemSource::new(script.as_bytes().to_vec(alloc)?, Vec::new(alloc));
-    let mut sink = MemSink::new(alloc, ROOM, Vec::new(alloc))?;
+    let mut sink = MemSink::new(alloc, 2 * ROOM, Vec::new(alloc))?;
     let outcome = first_run(alloc, &mut source, &mut sink)?;
     assert_eq!(rt; outcome.status, 0);
-    assert_eq!(rt;
-        sink.bytes(),
-        b"1: ERR size\nTX 1.1 storage - 0 0 rolledback - - -\n".as_slice()
-    );
+    assert_eq!(rt; sink.bytes(), ordinary_text(alloc)?.as_bytes());
     Ok(())
 }
 

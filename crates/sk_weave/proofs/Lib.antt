@@ -1,4 +1,3 @@
-pub mod Places
 pub mod Merging
 pub mod Running
 pub mod Picks
