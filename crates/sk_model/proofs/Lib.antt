@@ -15,4 +15,6 @@ pub mod Fitting
 mod EngineRows
 pub mod Layers
 pub mod Runs
+pub mod Openings
+mod Parts
 mod Rows
