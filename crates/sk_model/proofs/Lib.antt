@@ -16,5 +16,5 @@ mod EngineRows
 pub mod Layers
 pub mod Runs
 pub mod Openings
-mod Parts
+pub mod Parts
 mod Rows
