@@ -18,4 +18,6 @@ mod EngineRows
 mod OneDatabaseExamples
 pub mod Layers
 pub mod Runs
+pub mod Openings
+pub mod Parts
 mod Rows

@@ -1,9 +1,9 @@
 -- The entries of a journal whose Horizons are kept in runs.
-use Rattle.std.specs.Prelude.{◌≡◌, ℕ, zero, suc, ◌+◌, ◌≤◌, ◌<◌, List, [], ◌∷◌, ◌++◌, Option, Some, None, Bool, true, false, cond, not, ◌==◌, ◌||◌, ◌&&◌, length, nat_lt, replicate}
-use Rattle.std.proofs.Common.{refl, sym, ap, subst, ◌∙◌, arith}
+use Rattle.std.specs.Prelude.{◌≡◌, ℕ, zero, suc, ◌+◌, ◌<◌, List, [], ◌∷◌, ◌++◌, Option, Some, None, true, false, cond, not, ◌==◌, ◌||◌, ◌&&◌, length, nat_lt, replicate}
+use Rattle.std.proofs.Common.{refl, sym, ap, subst, ◌∙◌}
 use Rattle.std.specs.List.{flat_map}
-use Rattle.std.proofs.lemmas.Bool.{lt-ltb, ltb-true, ne_eqb, eqb-true, and_parts}
-use Rattle.std.proofs.lemmas.List.{append_assoc, replicate_more, length-replicate, length-append}
+use Rattle.std.proofs.lemmas.Bool.{lt-ltb, ne_eqb, eqb-true, and_parts}
+use Rattle.std.proofs.lemmas.List.{append_assoc, replicate_more}
 use Rattle.sk_model.specs.declared.call.Entry.{Entry}
 use Rattle.sk_model.specs.declared.journal.HorizonRun.{HorizonRun}
 use Rattle.sk_model.specs.declared.journal.JournalPart.{JournalPart}

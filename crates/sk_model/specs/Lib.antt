@@ -15,6 +15,7 @@ pub mod Resembling
 pub mod Journal
 pub mod Calls
 pub mod Stamped
+pub mod Halves
 pub mod EngineLaws
 pub mod Replies
 pub mod Sorts

@@ -1,6 +1,7 @@
 //! Laws of an engine's journal. Each function has one as its contract, and does nothing.
 
 ghost use Rattle.sk_model.specs.EngineLaws.{JournalGrows, RowsFit, VersionsRise, ReadsSnapshot, OwnWrites, StampedAreCommits, StampedAtSnapshot};
+ghost use Rattle.sk_model.specs.Halves.{PartsAreCommits, HalvesAreCommits};
 
 /// A legal journal with one more right reply is legal.
 pub fn journal_grows()
@@ -35,4 +36,14 @@ pub fn stamped_are_commits()
 /// What a stamp stamps was written at the snapshot of its transaction, which is before the number.
 pub fn stamped_at_snapshot()
     ensures { StampedAtSnapshot }
+{}
+
+/// The commits of an engine are the parts of each list of commits that has the same numbers of the engine and the same writes to its tables.
+pub fn parts_are_commits()
+    ensures { PartsAreCommits }
+{}
+
+/// Commits with the numbers of both engines, of which what an engine stamped are the halves, are that engine's commits.
+pub fn halves_are_commits()
+    ensures { HalvesAreCommits }
 {}

@@ -8,6 +8,7 @@ pub mod Parts
 pub mod Content
 pub mod Alone
 pub mod Holding
+mod Halved
 mod Rows
 pub mod Premises
 pub mod Registers

@@ -1,4 +1,4 @@
-use Rattle.std.specs.Prelude.{◌≡◌, ◌==◌}
+use Rattle.std.specs.Prelude.{◌==◌}
 use Rattle.std.proofs.Common.{sym, ap, ◌∙◌}
 use Rattle.sk_model.specs.Journal.{takes_horizon}
 use Rattle.sk_model.proofs.Runs.{takes_empty, takes_same}
