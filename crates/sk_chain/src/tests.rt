@@ -2,9 +2,7 @@ ghost use Rattle.std.specs.Prelude.{◌≡◌, true, OnOk};
 ghost use Rattle.sk_chain.specs.Changing.{may_push, pushed};
 
 use super::*;
-use sk_model::{
-    CommitList, EngineCall, EngineFault, HorizonRun, KeyedRows, Label, Why,
-};
+use sk_model::{CommitList, EngineCall, EngineFault, HorizonRun, KeyedRows, Label, Why};
 use sk_rows::{NoMemory, Row, Value};
 use std::process::Abort;
 use std::test::Fail;
@@ -222,7 +220,19 @@ fn horizons_that_follow_one_another_are_one_number(rt: HostRuntime) -> Result<()
     assert_eq!(&rt; journal.len(), 5);
     let (parts, last) = journal.as_parts();
     assert_eq!(&rt; parts.len(), 1);
-    assert_eq!(&rt; parts[0].horizons, HorizonRun { answer: 7, count: 3 });
-    assert_eq!(&rt; last, HorizonRun { answer: 7, count: 1 });
+    assert_eq!(&rt;
+        parts[0].horizons,
+        HorizonRun {
+            answer: 7,
+            count: 3
+        }
+    );
+    assert_eq!(&rt;
+        last,
+        HorizonRun {
+            answer: 7,
+            count: 1
+        }
+    );
     Ok(())
 }
