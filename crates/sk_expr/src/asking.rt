@@ -9,8 +9,8 @@ use sk_rows::{Copies, NoMemory, Statement, Table, Txt, Value};
 use std::alloc::Global;
 
 /// The table that a statement names, where a table answers it: BEGIN, COMMIT and ROLLBACK name none.
-pub fn table_said(statement: &Statement) -> Option<&Txt>
-    ensures { option_copied result ≡ spec.table_said statement.now }
+pub fn target_table(statement: &Statement) -> Option<&Txt>
+    ensures { option_copied result ≡ spec.target_table statement.now }
 {
     match statement {
         Statement::Begin(_) | Statement::Commit | Statement::Rollback => None,

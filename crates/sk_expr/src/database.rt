@@ -10,7 +10,7 @@ ghost use Rattle.sk_model.specs.Reads.{one_row as one_row_spec, rows_read};
 ghost use Rattle.sk_model.specs.Replies as spec;
 
 use crate::answering::{Answer, comes_to, refused};
-use crate::asking::{key_read, table_said};
+use crate::asking::{key_read, target_table};
 use crate::refusing::refusal;
 use sk_model::{ErrWord, KeyedRows};
 use sk_rows::{Catalog, Copies, NoMemory, Row, Statement, Table, Txt, Value};
@@ -135,7 +135,7 @@ pub(crate) fn answer(
 ) -> Result<Option<Answer>, NoMemory>
     ensures { IfOk result (λ a. a ≡ spec.answer_of catalog.now tables.now statement.now) }
 {
-    match table_said(statement) {
+    match target_table(statement) {
         None => Ok(None),
         Some(name) => Ok(Some(answer_on(alloc, catalog, tables, statement, name)?)),
     }

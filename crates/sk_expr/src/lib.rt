@@ -22,7 +22,7 @@ mod states;
 mod typing;
 
 pub use answering::comes_to;
-pub use asking::{key_read, table_said};
+pub use asking::{key_read, target_table};
 pub use evaluation::{holds, value};
 pub use explaining::explain;
 pub use laws::typed_has_value;

@@ -12,7 +12,7 @@ use Rattle.sk_model.specs.declared.commit.Write.{Write}
 use Rattle.sk_model.specs.declared.commit.Commit.{Commit}
 use Rattle.sk_model.specs.Database.{RowOf, Tables, hits, row_of, state, net}
 use Rattle.sk_model.specs.Numbers.{there, within, Rises}
-use Rattle.sk_model.specs.Engine.{Standing, Open, Closed, Stamped, Dropped, Version, is_upto, is_stamped, is_of}
+use Rattle.sk_model.specs.Engine.{VersionState, Open, Closed, Stamped, Dropped, Version, is_upto, is_stamped, is_of}
 use Rattle.sk_model.specs.EngineReplies.{stamps, is_stamped_with}
 use Rattle.sk_model.specs.Calls.{last_row}
 use Rattle.sk_model.specs.Stamped.{number_of, v_number, writes_of, Has, CommitsOf}
@@ -57,15 +57,15 @@ filter_twice_on p q r (x ∷ xs) h =
 -- what a stamped version of the row in front makes of those behind it
 from_front : (t : ℕ) (key : Value) (n : ℕ) (v w : Version) → v.standing ≡ Stamped n → is_row t key v ≡ true → (same_row v w ≡ true → Behind w.standing v.standing w.snapshot) → is_row t key w ≡ true → n ≤ w.snapshot
 from_front t key n v w e y k z =
-    go w.standing (and_parts _ _ z).1 (subst (λ (st : Standing). Behind w.standing st w.snapshot) e (k (same_row_of t key v w (and_parts _ _ y).0 (and_parts _ _ z).0)))
+    go w.standing (and_parts _ _ z).1 (subst (λ (st : VersionState). Behind w.standing st w.snapshot) e (k (same_row_of t key v w (and_parts _ _ y).0 (and_parts _ _ z).0)))
   where
-    go : (st : Standing) → is_stamped st ≡ true → Behind st (Stamped n) w.snapshot → n ≤ w.snapshot
+    go : (st : VersionState) → is_stamped st ≡ true → Behind st (Stamped n) w.snapshot → n ≤ w.snapshot
     go Open i b = b
     go (Closed f) i b = b
     go (Stamped m) i b = b
     go Dropped i b = absurd (false≢true i)
 
-stamped_is : (st : Standing) → is_stamped st ≡ true → (n : ℕ) × (st ≡ Stamped n)
+stamped_is : (st : VersionState) → is_stamped st ≡ true → (n : ℕ) × (st ≡ Stamped n)
 stamped_is Open i = absurd (false≢true i)
 stamped_is (Closed f) i = absurd (false≢true i)
 stamped_is (Stamped n) i = (n, refl)
@@ -78,7 +78,7 @@ rises_from g t key low [] o l h = tt
 rises_from g t key low (v ∷ vs) o l h = cond_both (is_row t key v) (v ∷ row_versions t key vs) (row_versions t key vs) (λ (xs : List Version). Rises v_number low xs)
     (λ (y : is_row t key v ≡ true).
     let st : (n : ℕ) × (v.standing ≡ Stamped n) = stamped_is v.standing (and_parts (is_of t key v) (is_stamped v.standing) y).1 in
-    let s : v.snapshot < st.0 = subst (λ (x : Standing). TimedAt g v.snapshot x) st.1 l.0 in
+    let s : v.snapshot < st.0 = subst (λ (x : VersionState). TimedAt g v.snapshot x) st.1 l.0 in
     let m : low ≤ v.snapshot = h.0 y in
     let low_is : low < st.0 = omega arith in (
       st.0,
@@ -95,7 +95,7 @@ each_all P f (x ∷ xs) = (f x, each_all P f xs)
 pub row_rises : (g t : ℕ) (key : Value) (vs : List Version) → Ordered vs → Each (λ (v : Version). TimedAt g v.snapshot v.standing) vs → Rises v_number 0 (row_versions t key vs)
 row_rises g t key vs o l = rises_from g t key 0 vs o l (each_all (λ (v : Version). is_row t key v ≡ true → 0 ≤ v.snapshot) (λ v y. omega arith) vs)
 
-row_test : (b : Bool) (g t : ℕ) (key : Value) (s sn : ℕ) (st : Standing) → TimedAt g sn st → ((b && is_stamped st) && there (within 0 s) (number_of st)) ≡ (b && is_upto s st)
+row_test : (b : Bool) (g t : ℕ) (key : Value) (s sn : ℕ) (st : VersionState) → TimedAt g sn st → ((b && is_stamped st) && there (within 0 s) (number_of st)) ≡ (b && is_upto s st)
 row_test true g t key s sn Open k = refl
 row_test false g t key s sn st k = refl
 row_test true g t key s sn (Closed f) k = refl
@@ -135,7 +135,7 @@ and_swap true false = refl
 and_swap false true = refl
 and_swap false false = refl
 
-stamp_test : (b : Bool) (n : ℕ) (st : Standing) → (stamps n st && b) ≡ (b && there (◌==◌ n) (number_of st))
+stamp_test : (b : Bool) (n : ℕ) (st : VersionState) → (stamps n st && b) ≡ (b && there (◌==◌ n) (number_of st))
 stamp_test true n Open = refl
 stamp_test false n Open = refl
 stamp_test true n (Closed f) = refl
@@ -145,7 +145,7 @@ stamp_test false n (Stamped m) = and_swap (n == m) false
 stamp_test true n Dropped = refl
 stamp_test false n Dropped = refl
 
-row_stamp_test : (b : Bool) (n : ℕ) (st : Standing) → ((b && is_stamped st) && there (◌==◌ n) (number_of st)) ≡ (b && there (◌==◌ n) (number_of st))
+row_stamp_test : (b : Bool) (n : ℕ) (st : VersionState) → ((b && is_stamped st) && there (◌==◌ n) (number_of st)) ≡ (b && there (◌==◌ n) (number_of st))
 row_stamp_test true n Open = refl
 row_stamp_test false n st = refl
 row_stamp_test true n (Closed f) = refl

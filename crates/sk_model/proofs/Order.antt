@@ -17,7 +17,7 @@ use Rattle.sk_model.specs.declared.call.EngineReply.TheVariants.{Done, Fault}
 use Rattle.sk_model.specs.declared.call.Entry.{Entry}
 use Rattle.sk_model.specs.Database.{Tables, hits}
 use Rattle.sk_model.specs.Records.{same_label}
-use Rattle.sk_model.specs.Engine.{Standing, Open, Closed, Stamped, Dropped, Version, Opening, Openings, EngineTable, engine_at, is_open, is_undecided, is_stamped, is_of, opening_in, opening_of, snapshot_in, snapshot_of, write_at}
+use Rattle.sk_model.specs.Engine.{VersionState, Open, Closed, Stamped, Dropped, Version, Opening, Openings, EngineTable, engine_at, is_open, is_undecided, is_stamped, is_of, opening_in, opening_of, snapshot_in, snapshot_of, write_at}
 use Rattle.sk_model.specs.EngineReplies.{is_rival, put_answer, conflict_or, past_or, past_of, last_in, is_used, answer_of}
 use Rattle.sk_model.specs.EngineChanges.{restood, restand, put_version, without_opening, opening_at, change}
 use Rattle.sk_model.specs.EngineConditions.{may, is_closed, is_standing, floor_of, empty_of}
@@ -28,14 +28,14 @@ use Rattle.sk_model.proofs.Labels.{same_is, openings_put, openings_closed, openi
 use Rattle.sk_model.proofs.Quiet.{Sound, AllSound, Stands, each_map_from, each_put, step_keeps, no_closed, sound_change, put_standing}
 
 -- v may stand before a version that was written at the snapshot s
-abbrev pub Precedes : Standing → ℕ → Type 0
+abbrev pub Precedes : VersionState → ℕ → Type 0
 Precedes Open s = ⊥
 Precedes (Closed f) s = ⊥
 Precedes (Stamped n) s = n ≤ s
 Precedes Dropped s = Unit {0}
 
 -- a version that stands as w and was written at s may stand behind one that stands as v
-abbrev pub Behind : Standing → Standing → ℕ → Type 0
+abbrev pub Behind : VersionState → VersionState → ℕ → Type 0
 Behind Dropped v s = Unit {0}
 Behind Open v s = Precedes v s
 Behind (Closed f) v s = Precedes v s
@@ -49,26 +49,26 @@ Ordered [] = Unit {0}
 Ordered (v ∷ vs) = Each (λ (w : Version). same_row v w ≡ true → Behind w.standing v.standing w.snapshot) vs × Ordered vs
 
 -- a version's number and floor are past the snapshot at which it was written
-abbrev pub TimedAt : ℕ → ℕ → Standing → Type 0
+abbrev pub TimedAt : ℕ → ℕ → VersionState → Type 0
 TimedAt greatest s Open = s ≤ greatest
 TimedAt greatest s (Closed f) = s ≤ f
 TimedAt greatest s (Stamped n) = s < n
 TimedAt greatest s Dropped = Unit {0}
 
-behind_any : (x v : Standing) (s : ℕ) → Precedes v s → Behind x v s
+behind_any : (x v : VersionState) (s : ℕ) → Precedes v s → Behind x v s
 behind_any Open v s h = h
 behind_any (Closed f) v s h = h
 behind_any (Stamped m) v s h = h
 behind_any Dropped v s h = tt
 
-precedes_kept : (b : Bool) (st v : Standing) (s : ℕ) → (b ≡ true → is_undecided v ≡ true) → Precedes v s → Precedes (cond b st v) s
+precedes_kept : (b : Bool) (st v : VersionState) (s : ℕ) → (b ≡ true → is_undecided v ≡ true) → Precedes v s → Precedes (cond b st v) s
 precedes_kept true st Open s u h = absurd h
 precedes_kept true st (Closed f) s u h = absurd h
 precedes_kept true st (Stamped n) s u h = absurd (false≢true (u refl))
 precedes_kept true st Dropped s u h = absurd (false≢true (u refl))
 precedes_kept false st v s u h = h
 
-behind_kept : (bw bv : Bool) (st w v : Standing) (s : ℕ) → (bw ≡ true → is_undecided w ≡ true) → (bv ≡ true → is_undecided v ≡ true) → Behind w v s → Behind (cond bw st w) (cond bv st v) s
+behind_kept : (bw bv : Bool) (st w v : VersionState) (s : ℕ) → (bw ≡ true → is_undecided w ≡ true) → (bv ≡ true → is_undecided v ≡ true) → Behind w v s → Behind (cond bw st w) (cond bv st v) s
 behind_kept true bv st Dropped v s uw uv h = absurd (false≢true (uw refl))
 behind_kept false bv st Dropped v s uw uv h = tt
 behind_kept bw bv st Open v s uw uv h = behind_any (cond bw st Open) (cond bv st v) s (precedes_kept bv st v s uv h)
@@ -76,7 +76,7 @@ behind_kept bw bv st (Closed f) v s uw uv h = behind_any (cond bw st (Closed f))
 behind_kept bw bv st (Stamped m) v s uw uv h = behind_any (cond bw st (Stamped m)) (cond bv st v) s (precedes_kept bv st v s uv h)
 
 -- the pair of two versions after a new standing
-behind_restood : (tx : Label) (st : Standing) (v w : Version) → (same_row v w ≡ true → Behind w.standing v.standing w.snapshot)
+behind_restood : (tx : Label) (st : VersionState) (v w : Version) → (same_row v w ≡ true → Behind w.standing v.standing w.snapshot)
     → same_row (restood tx st v) (restood tx st w) ≡ true → Behind (restood tx st w).standing (restood tx st v).standing (restood tx st w).snapshot
 behind_restood tx st v w h = go (same_label tx w.by && is_undecided w.standing) (same_label tx v.by && is_undecided v.standing) (λ e. (and_parts _ _ e).1) (λ e. (and_parts _ _ e).1)
   where
@@ -88,7 +88,7 @@ behind_restood tx st v w h = go (same_label tx w.by && is_undecided w.standing) 
     go false true uw uv s = behind_kept false true st w.standing v.standing w.snapshot uw uv (h s)
     go false false uw uv s = h s
 
-pub ordered_restand : (tx : Label) (st : Standing) (vs : List Version) → Ordered vs → Ordered (restand tx st vs)
+pub ordered_restand : (tx : Label) (st : VersionState) (vs : List Version) → Ordered vs → Ordered (restand tx st vs)
 ordered_restand tx st [] h = tt
 ordered_restand tx st (v ∷ vs) h = (
   each_map_from (λ (w : Version). same_row v w ≡ true → Behind w.standing v.standing w.snapshot)
@@ -154,7 +154,7 @@ UptoLast s (Some v) = is_stamped v.standing ≡ true → Precedes v.standing s
 abbrev pub is_row : ℕ → Value → Version → Bool
 is_row t key v = is_of t key v && is_stamped v.standing
 
-chain : (g : ℕ) (v y : Standing) (sy s : ℕ) → is_stamped y ≡ true → Behind y v sy → TimedAt g sy y → Precedes y s → Precedes v s
+chain : (g : ℕ) (v y : VersionState) (sy s : ℕ) → is_stamped y ≡ true → Behind y v sy → TimedAt g sy y → Precedes y s → Precedes v s
 chain g v Open sy s t b l p = absurd (false≢true t)
 chain g v (Closed f) sy s t b l p = absurd (false≢true t)
 chain g Open (Stamped m) sy s t b l p = absurd b
@@ -208,7 +208,7 @@ past_none : (s : ℕ) (o : Option Version) → is_refusal (past_or s o) ≡ fals
 past_none s None h = tt
 past_none s (Some v) h = at v.standing h
   where
-    at : (st : Standing) → is_refusal (past_of s v.by st) ≡ false → is_stamped st ≡ true → Precedes st s
+    at : (st : VersionState) → is_refusal (past_of s v.by st) ≡ false → is_stamped st ≡ true → Precedes st s
     at Open h t = absurd (false≢true t)
     at (Closed f) h t = absurd (false≢true t)
     at (Stamped n) h t = not_past s v.by n h
@@ -234,7 +234,7 @@ put_lets e tx w m sound ordered timed h =
         → (is_row w.table w.key v ≡ true → Precedes v.standing (snapshot_of e tx)) → Sound e.openings v → Precedes v.standing (snapshot_of e tx)
     at v i f r given so = go v.standing refl
       where
-        go : (st : Standing) → v.standing ≡ st → Precedes v.standing (snapshot_of e tx)
+        go : (st : VersionState) → v.standing ≡ st → Precedes v.standing (snapshot_of e tx)
         go Open q = absurd (false≢true (sym f ∙ and_from _ _ (own v i r (ap is_undecided q)) (ap is_open q)))
         go (Closed g) q = absurd (no_closed tx e.openings v m so (own v i r (ap is_undecided q)) g q)
         go (Stamped n) q = given (and_from _ _ i (ap is_stamped q))
@@ -247,13 +247,13 @@ pub record Good (e : EngineTable) : Type 0 where
   pub timed : Each (λ (v : Version). TimedAt e.greatest v.snapshot v.standing) e.versions
   pub opens : (l : Label) → snapshot_of e l ≤ e.greatest
 
-timed_more : (g h s : ℕ) (st : Standing) → g ≤ h → TimedAt g s st → TimedAt h s st
+timed_more : (g h s : ℕ) (st : VersionState) → g ≤ h → TimedAt g s st → TimedAt h s st
 timed_more g h s Open l t = omega arith
 timed_more g h s (Closed f) l t = t
 timed_more g h s (Stamped n) l t = t
 timed_more g h s Dropped l t = tt
 
-timed_restood : (g : ℕ) (tx : Label) (st : Standing) (v : Version) → (same_label tx v.by ≡ true → is_undecided v.standing ≡ true → TimedAt g v.snapshot st)
+timed_restood : (g : ℕ) (tx : Label) (st : VersionState) (v : Version) → (same_label tx v.by ≡ true → is_undecided v.standing ≡ true → TimedAt g v.snapshot st)
     → TimedAt g v.snapshot v.standing → TimedAt g (restood tx st v).snapshot (restood tx st v).standing
 timed_restood g tx st v new old = cond_both (same_label tx v.by && is_undecided v.standing) (record v { standing = st }) v (λ (x : Version). TimedAt g x.snapshot x.standing)
     (λ e. new (and_parts _ _ e).0 (and_parts _ _ e).1) (λ e. old)
@@ -263,7 +263,7 @@ timed_close : (g : ℕ) (tx : Label) (os : Openings) (v : Version) → is_standi
     → same_label tx v.by ≡ true → is_undecided v.standing ≡ true → TimedAt g v.snapshot (Closed g)
 timed_close g tx os v m so t same u = at v.standing refl t
   where
-    at : (st : Standing) → v.standing ≡ st → TimedAt g v.snapshot st → v.snapshot ≤ g
+    at : (st : VersionState) → v.standing ≡ st → TimedAt g v.snapshot st → v.snapshot ≤ g
     at Open q t = t
     at (Closed f) q t = absurd (no_closed tx os v m so same f q)
     at (Stamped n) q t = absurd (false≢true (sym (ap is_undecided q) ∙ u))
@@ -274,7 +274,7 @@ timed_stamp : (g n : ℕ) (tx : Label) (os : Openings) (v : Version) → is_clos
     → same_label tx v.by ≡ true → is_undecided v.standing ≡ true → TimedAt g v.snapshot (Stamped n)
 timed_stamp g n tx os v c l so t same u = at (opening_in tx os) v.standing c l (subst (λ (x : Label). Stands (opening_in x os) v.standing) (sym (same_is tx v.by same)) so) t u
   where
-    at : (o : Option Opening) (st : Standing) → is_closed o ≡ true → floor_of o < n → Stands o st → TimedAt g v.snapshot st → is_undecided st ≡ true → v.snapshot < n
+    at : (o : Option Opening) (st : VersionState) → is_closed o ≡ true → floor_of o < n → Stands o st → TimedAt g v.snapshot st → is_undecided st ≡ true → v.snapshot < n
     at None st c l so t u = absurd (false≢true c)
     at (Some o) Open c l so t u = absurd (false≢true (sym (ap (λ (x : Option ℕ). is_some x) so) ∙ c))
     at (Some o) (Closed f) c l so t u =
@@ -283,7 +283,7 @@ timed_stamp g n tx os v c l so t same u = at (opening_in tx os) v.standing c l (
     at (Some o) (Stamped i) c l so t u = absurd (false≢true u)
     at (Some o) Dropped c l so t u = absurd (false≢true u)
 
-good_end : (e : EngineTable) (tx : Label) (st : Standing) → Good e → Each (Sound (without_opening tx e.openings)) (restand tx st e.versions)
+good_end : (e : EngineTable) (tx : Label) (st : VersionState) → Good e → Each (Sound (without_opening tx e.openings)) (restand tx st e.versions)
     → Each (λ (v : Version). same_label tx v.by ≡ true → is_undecided v.standing ≡ true → TimedAt e.greatest v.snapshot st) e.versions
     → (stamped : List (ℕ × Label)) (voided : List ℕ)
     → Good (record e { versions = restand tx st e.versions; openings = without_opening tx e.openings; stamped = stamped; voided = voided })

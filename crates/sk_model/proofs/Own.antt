@@ -14,7 +14,7 @@ use Rattle.sk_model.specs.declared.call.EngineReply.{EngineReply}
 use Rattle.sk_model.specs.declared.call.Entry.{Entry}
 use Rattle.sk_model.specs.Database.{RowOf, hits}
 use Rattle.sk_model.specs.Records.{same_label}
-use Rattle.sk_model.specs.Engine.{Standing, Open, Closed, Stamped, Dropped, Version, EngineTable, snapshot_of, is_open, is_undecided, is_of, write_at}
+use Rattle.sk_model.specs.Engine.{VersionState, Open, Closed, Stamped, Dropped, Version, EngineTable, snapshot_of, is_open, is_undecided, is_of, write_at}
 use Rattle.sk_model.specs.EngineChanges.{change, restand, put_version}
 use Rattle.sk_model.specs.EngineConditions.{may}
 use Rattle.sk_model.specs.Legal.{is_refusal, step, after_entries, Legal, Allowed}
@@ -26,7 +26,7 @@ use Rattle.sk_model.proofs.Order.{Good, Ordered, good_entries}
 use Rattle.sk_model.proofs.Numbered.{filter-map, last_touched}
 use Rattle.sk_model.proofs.Reading.{own_versions, none_left}
 
-open_undecided : (st : Standing) → is_open st ≡ true → is_undecided st ≡ true
+open_undecided : (st : VersionState) → is_open st ≡ true → is_undecided st ≡ true
 open_undecided Open e = refl
 open_undecided (Closed f) e = absurd (false≢true e)
 open_undecided (Stamped n) e = absurd (false≢true e)
@@ -111,7 +111,7 @@ own_other_put tx other s w ne (v ∷ vs) =
     (λ (m : is_own tx v ≡ false). own_skip tx v (put_version other s w vs) m ∙ own_other_put tx other s w ne vs ∙ sym (own_skip tx v vs m))
     (cases_Bool (is_own tx v)))
 
-pub own_other_end : (tx other : Label) (st : Standing) → same_label tx other ≡ false → (vs : List Version) → own_writes_of tx (restand other st vs) ≡ own_writes_of tx vs
+pub own_other_end : (tx other : Label) (st : VersionState) → same_label tx other ≡ false → (vs : List Version) → own_writes_of tx (restand other st vs) ≡ own_writes_of tx vs
 own_other_end tx other st ne [] = refl
 own_other_end tx other st ne (v ∷ vs) =
     cond_both (same_label other v.by && is_undecided v.standing) (record v { standing = st }) v

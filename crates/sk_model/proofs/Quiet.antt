@@ -12,7 +12,7 @@ use Rattle.sk_model.specs.declared.call.EngineCall.TheVariants as call
 use Rattle.sk_model.specs.declared.call.Entry.{Entry}
 use Rattle.sk_model.specs.Database.{RowOf, hits}
 use Rattle.sk_model.specs.Records.{same_label}
-use Rattle.sk_model.specs.Engine.{label_cmp, Standing, Open, Closed, Stamped, Dropped, Version, Opening, Openings, EngineTable, is_upto, is_open, is_undecided, is_of, opening_in, opening_of, snapshot_of, write_at}
+use Rattle.sk_model.specs.Engine.{label_cmp, VersionState, Open, Closed, Stamped, Dropped, Version, Opening, Openings, EngineTable, is_upto, is_open, is_undecided, is_of, opening_in, opening_of, snapshot_of, write_at}
 use Rattle.sk_model.specs.EngineReplies.{is_used}
 use Rattle.sk_model.specs.EngineChanges.{restood, restand, put_version, without_opening, closed_at, closed_in, opening_at, change}
 use Rattle.sk_model.specs.EngineConditions.{may, has_table, has_key, has_row, is_closed, is_standing, floor_of}
@@ -21,7 +21,7 @@ use Rattle.sk_model.proofs.Lists.{Each, each_both, each_weaker}
 use Rattle.sk_model.proofs.Labels.{same_is, same_itself, not_same_back, find_put, find_without}
 
 -- an open version's transaction has a standing opening, and a closed one's is closed with its floor
-abbrev pub Stands : Option Opening → Standing → Type 0
+abbrev pub Stands : Option Opening → VersionState → Type 0
 Stands None Open = ⊥
 Stands (Some o) Open = o.floor ≡ None
 Stands None (Closed f) = ⊥
@@ -36,29 +36,29 @@ abbrev pub AllSound : EngineTable → Type 0
 AllSound e = Each (Sound e.openings) e.versions
 
 -- the standing of a version after its transaction's versions got a new one
-restood_standing : (tx : Label) (st : Standing) (v : Version) → (restood tx st v).standing ≡ cond (same_label tx v.by && is_undecided v.standing) st v.standing
+restood_standing : (tx : Label) (st : VersionState) (v : Version) → (restood tx st v).standing ≡ cond (same_label tx v.by && is_undecided v.standing) st v.standing
 restood_standing tx st v = go (same_label tx v.by && is_undecided v.standing)
   where
     go : (b : Bool) → (cond b (record v { standing = st }) v).standing ≡ cond b st v.standing
     go true = refl
     go false = refl
 
-restood_by : (tx : Label) (st : Standing) (v : Version) → (restood tx st v).by ≡ v.by
+restood_by : (tx : Label) (st : VersionState) (v : Version) → (restood tx st v).by ≡ v.by
 restood_by tx st v = cond_both (same_label tx v.by && is_undecided v.standing) (record v { standing = st }) v (λ (x : Version). x.by ≡ v.by) (λ e. refl) (λ e. refl)
 
-pub restood_write : (tx : Label) (st : Standing) (v : Version) → (restood tx st v).write ≡ v.write
+pub restood_write : (tx : Label) (st : VersionState) (v : Version) → (restood tx st v).write ≡ v.write
 restood_write tx st v = cond_both (same_label tx v.by && is_undecided v.standing) (record v { standing = st }) v (λ (x : Version). x.write ≡ v.write) (λ e. refl) (λ e. refl)
 
 -- a transaction with a standing opening has no closed version
 pub no_closed : (tx : Label) (os : Openings) (v : Version) → is_standing (opening_in tx os) ≡ true → Sound os v → same_label tx v.by ≡ true → (g : ℕ) → v.standing ≡ Closed g → ⊥
-no_closed tx os v m h t g e = at (opening_in tx os) m (subst (λ (st : Standing). Stands (opening_in tx os) st) e (subst (λ (l : Label). Stands (opening_in l os) v.standing) (sym (same_is tx v.by t)) h))
+no_closed tx os v m h t g e = at (opening_in tx os) m (subst (λ (st : VersionState). Stands (opening_in tx os) st) e (subst (λ (l : Label). Stands (opening_in l os) v.standing) (sym (same_is tx v.by t)) h))
   where
     at : (o : Option Opening) → is_standing o ≡ true → Stands o (Closed g) → ⊥
     at None m h = h
     at (Some o) m h = false≢true (sym (ap (λ (x : Option ℕ). not (is_some x)) h) ∙ m)
 
 -- once a standing is decided it stands with any opening
-decided : (o : Option Opening) (st : Standing) → is_undecided st ≡ false → Stands o st
+decided : (o : Option Opening) (st : VersionState) → is_undecided st ≡ false → Stands o st
 decided o Open e = absurd (false≢true (sym e))
 decided o (Closed f) e = absurd (false≢true (sym e))
 decided None (Stamped n) e = tt
@@ -67,11 +67,11 @@ decided None Dropped e = tt
 decided (Some o) Dropped e = tt
 
 -- a version's standing beside its transaction's opening, after that transaction's versions got a new one
-sound_again : (tx : Label) (st : Standing) (os new : Openings) (v : Version)
+sound_again : (tx : Label) (st : VersionState) (os new : Openings) (v : Version)
     → (same_label tx v.by ≡ true → is_undecided v.standing ≡ true → Stands (opening_in v.by new) st)
     → (same_label tx v.by ≡ false → opening_in v.by new ≡ opening_in v.by os) → Sound os v → Sound new (restood tx st v)
 sound_again tx st os new v own other h =
-    subst (λ (s : Standing). Stands (opening_in (restood tx st v).by new) s) (sym (restood_standing tx st v))
+    subst (λ (s : VersionState). Stands (opening_in (restood tx st v).by new) s) (sym (restood_standing tx st v))
     (subst (λ (l : Label). Stands (opening_in l new) (cond (same_label tx v.by && is_undecided v.standing) st v.standing)) (sym (restood_by tx st v))
     (⊎_elim
     (λ (t : same_label tx v.by ≡ true). ⊎_elim
@@ -89,14 +89,14 @@ sound_close tx f os v (Some o) m h = sound_again tx (Closed f) os (put label_cmp
     (λ n. find_put v.by tx (closed_at f o) os ∙ cond-false (same_label v.by tx) (Some (closed_at f o)) (opening_in v.by os) (not_same_back tx v.by n))
     h
 
-sound_end : (tx : Label) (st : Standing) (os : Openings) (v : Version) → is_undecided st ≡ false → Sound os v → Sound (without_opening tx os) (restood tx st v)
+sound_end : (tx : Label) (st : VersionState) (os : Openings) (v : Version) → is_undecided st ≡ false → Sound os v → Sound (without_opening tx os) (restood tx st v)
 sound_end tx st os v d h = sound_again tx st os (without_opening tx os) v
     (λ t u. decided (opening_in v.by (without_opening tx os)) st d)
     (λ n. find_without v.by tx os ∙ cond-true (not (same_label tx v.by)) (opening_in v.by os) None (ap not n))
     h
 
 -- one more opening, of a transaction that has none
-stands_new : (o : Opening) (st : Standing) → Stands None st → Stands (Some o) st
+stands_new : (o : Opening) (st : VersionState) → Stands None st → Stands (Some o) st
 stands_new o Open h = absurd h
 stands_new o (Closed f) h = absurd h
 stands_new o (Stamped n) h = tt
@@ -162,7 +162,7 @@ reads t key s v = is_of t key v && is_upto s v.standing
 abbrev pub seen_versions : ℕ → Value → ℕ → List Version → List Version
 seen_versions t key s vs = filter (reads t key s) vs
 
-abbrev pub QuietAt : ℕ → Standing → Type 0
+abbrev pub QuietAt : ℕ → VersionState → Type 0
 QuietAt s Open = Unit {0}
 QuietAt s (Closed f) = s ≤ f
 QuietAt s (Stamped n) = Unit {0}
@@ -176,22 +176,22 @@ pub record Quiet (t : ℕ) (key : Value) (s : ℕ) (e : EngineTable) : Type 0 wh
   pub opened : s ≤ e.greatest
   pub row : Each (QuietIn t key s) e.versions
 
-quiet_decided : (s : ℕ) (st : Standing) → is_undecided st ≡ false → QuietAt s st
+quiet_decided : (s : ℕ) (st : VersionState) → is_undecided st ≡ false → QuietAt s st
 quiet_decided s Open e = tt
 quiet_decided s (Closed f) e = absurd (false≢true (sym e))
 quiet_decided s (Stamped n) e = tt
 quiet_decided s Dropped e = tt
 
-quiet_open : (s : ℕ) (st : Standing) → is_open st ≡ true → QuietAt s st
+quiet_open : (s : ℕ) (st : VersionState) → is_open st ≡ true → QuietAt s st
 quiet_open s Open e = tt
 quiet_open s (Closed f) e = absurd (false≢true e)
 quiet_open s (Stamped n) e = tt
 quiet_open s Dropped e = tt
 
-quiet_restood : (t : ℕ) (key : Value) (s : ℕ) (tx : Label) (st : Standing) → QuietAt s st → (v : Version) → QuietIn t key s v → QuietIn t key s (restood tx st v)
+quiet_restood : (t : ℕ) (key : Value) (s : ℕ) (tx : Label) (st : VersionState) → QuietAt s st → (v : Version) → QuietIn t key s v → QuietIn t key s (restood tx st v)
 quiet_restood t key s tx st q v h = cond_both (same_label tx v.by && is_undecided v.standing) (record v { standing = st }) v (λ (x : Version). QuietIn t key s x) (λ e i. q) (λ e. h)
 
-quiet_map : (t : ℕ) (key : Value) (s : ℕ) (e : EngineTable) (tx : Label) (st : Standing) → QuietAt s st → Each (QuietIn t key s) e.versions → Each (QuietIn t key s) (restand tx st e.versions)
+quiet_map : (t : ℕ) (key : Value) (s : ℕ) (e : EngineTable) (tx : Label) (st : VersionState) → QuietAt s st → Each (QuietIn t key s) e.versions → Each (QuietIn t key s) (restand tx st e.versions)
 quiet_map t key s e tx st q h = each_map_from (QuietIn t key s) (QuietIn t key s) (restood tx st) (quiet_restood t key s tx st q) e.versions h
 
 pub quiet_change : (t : ℕ) (key : Value) (s : ℕ) (e : EngineTable) (c : EngineCall) → Quiet t key s e → Quiet t key s (change e c)
@@ -207,13 +207,13 @@ quiet_change t key s e call.Horizon h = h
 quiet_change t key s e (call.Records from to) h = h
 quiet_change t key s e (call.Purge upto) h = record { opened = h.opened; row = h.row }
 
-open_unseen : (s : ℕ) (st : Standing) → is_open st ≡ true → is_upto s st ≡ false
+open_unseen : (s : ℕ) (st : VersionState) → is_open st ≡ true → is_upto s st ≡ false
 open_unseen s Open e = refl
 open_unseen s (Closed f) e = absurd (false≢true e)
 open_unseen s (Stamped n) e = absurd (false≢true e)
 open_unseen s Dropped e = absurd (false≢true e)
 
-pub undecided_unseen : (s : ℕ) (st : Standing) → is_undecided st ≡ true → is_upto s st ≡ false
+pub undecided_unseen : (s : ℕ) (st : VersionState) → is_undecided st ≡ true → is_upto s st ≡ false
 undecided_unseen s Open e = refl
 undecided_unseen s (Closed f) e = refl
 undecided_unseen s (Stamped n) e = absurd (false≢true e)
@@ -244,7 +244,7 @@ filter_map_same p f (x ∷ xs) h =
     h.0
 
 -- a new standing that is not seen at s, or versions that are not of the row
-restand_unseen : (t : ℕ) (key : Value) (s : ℕ) (tx : Label) (st : Standing) (vs : List Version)
+restand_unseen : (t : ℕ) (key : Value) (s : ℕ) (tx : Label) (st : VersionState) (vs : List Version)
     → Each (λ v. same_label tx v.by ≡ true → is_undecided v.standing ≡ true → (is_of t key v && is_upto s st) ≡ false) vs
     → seen_versions t key s (restand tx st vs) ≡ seen_versions t key s vs
 restand_unseen t key s tx st vs h = filter_map_same (reads t key s) (restood tx st) vs (each_weaker _ _ one vs h)
@@ -265,7 +265,7 @@ stamp_unseen : (t : ℕ) (key : Value) (s n : ℕ) (tx : Label) (e : EngineTable
     → Each (λ v. same_label tx v.by ≡ true → is_undecided v.standing ≡ true → (is_of t key v && nat_le n s) ≡ false) e.versions
 stamp_unseen t key s n tx e c l q sound = each_weaker _ _ (λ v k. one v k.0 k.1) e.versions (each_both (QuietIn t key s) (Sound e.openings) e.versions q.row sound)
   where
-    at : (o : Option Opening) (st : Standing) → is_closed o ≡ true → floor_of o < n → n ≤ s → QuietAt s st → is_undecided st ≡ true → Stands o st → ⊥
+    at : (o : Option Opening) (st : VersionState) → is_closed o ≡ true → floor_of o < n → n ≤ s → QuietAt s st → is_undecided st ≡ true → Stands o st → ⊥
     at None st c l m k u h = false≢true c
     at (Some o) Open c l m k u h = false≢true (sym (ap (λ (x : Option ℕ). is_some x) h) ∙ c)
     at (Some o) (Closed f) c l m k u h =

@@ -20,7 +20,7 @@ use Rattle.sk_model.specs.declared.call.Entry.{Entry}
 use Rattle.sk_model.specs.Database.{RowOf, KeyedRows, Tables, hits, row_of, table_of, after_writes, state}
 use Rattle.sk_model.specs.Numbers.{there, within, Rises}
 use Rattle.sk_model.specs.Records.{same_label}
-use Rattle.sk_model.specs.Engine.{Standing, Open, Closed, Stamped, Dropped, Version, EngineTable, engine_at, is_upto, is_undecided, is_of, is_closed_below, opening_of, snapshot_of}
+use Rattle.sk_model.specs.Engine.{VersionState, Open, Closed, Stamped, Dropped, Version, EngineTable, engine_at, is_upto, is_undecided, is_of, is_closed_below, opening_of, snapshot_of}
 use Rattle.sk_model.specs.EngineReplies.{is_seen, seen, is_blocking, is_less, least_key, busy_or, got, scanned}
 use Rattle.sk_model.specs.EngineChanges.{change}
 use Rattle.sk_model.specs.EngineConditions.{is_standing}
@@ -37,7 +37,7 @@ abbrev pub own_versions : Label → ℕ → Value → List Version → List Vers
 own_versions tx t key vs = filter (λ v. is_of t key v && is_own tx v) vs
 
 -- behind an undecided version of a row stand only dropped ones
-gone : (w st : Standing) (s : ℕ) → is_undecided st ≡ true → Behind w st s → w ≡ Dropped
+gone : (w st : VersionState) (s : ℕ) → is_undecided st ≡ true → Behind w st s → w ≡ Dropped
 gone Dropped st s u b = refl
 gone Open Open s u b = absurd b
 gone Open (Closed f) s u b = absurd b
@@ -142,7 +142,7 @@ quiet_read e tx t key h m none = record {
         s : ℕ
         s = snapshot_of e tx
 
-        go : (st : Standing) → v.standing ≡ st → QuietAt (snapshot_of e tx) v.standing
+        go : (st : VersionState) → v.standing ≡ st → QuietAt (snapshot_of e tx) v.standing
         go Open q = rw q tt
         go (Stamped n) q = rw q tt
         go Dropped q = rw q tt

@@ -10,7 +10,7 @@ use Rattle.sk_model.specs.declared.call.EngineCall.TheVariants as call
 use Rattle.sk_model.specs.declared.call.EngineReply.TheVariants.{Done}
 use Rattle.sk_model.specs.declared.call.Entry.{Entry}
 use Rattle.sk_model.specs.Records.{same_label}
-use Rattle.sk_model.specs.Engine.{label_cmp, Standing, Open, Closed, Stamped, Dropped, Version, Opening, Openings, EngineTable, engine_at, is_undecided, opening_in, opening_of, snapshot_in, snapshot_of, write_at}
+use Rattle.sk_model.specs.Engine.{label_cmp, VersionState, Open, Closed, Stamped, Dropped, Version, Opening, Openings, EngineTable, engine_at, is_undecided, opening_in, opening_of, snapshot_in, snapshot_of, write_at}
 use Rattle.sk_model.specs.EngineReplies.{is_used}
 use Rattle.sk_model.specs.EngineChanges.{restood, restand, closed_at, closed_in, opening_at, without_opening, change}
 use Rattle.sk_model.specs.EngineConditions.{is_closed, floor_of, may}
@@ -38,7 +38,7 @@ record Timely (e : EngineTable) : Type 0 where
   opens : (l : Label) → snapshot_of e l ≤ e.greatest
 
 -- who has no opening has no undecided version
-no_version : (o : Option Opening) (st : Standing) → o ≡ None → Stands o st → is_undecided st ≡ false
+no_version : (o : Option Opening) (st : VersionState) → o ≡ None → Stands o st → is_undecided st ≡ false
 no_version None Open e h = absurd h
 no_version None (Closed f) e h = absurd h
 no_version None (Stamped n) e h = refl
@@ -67,7 +67,7 @@ written_close tx f o os e v h = cond_both (same_label tx v.by && is_undecided v.
     (λ t u. closed_snapshot v.by tx f o os e ∙ h (and_parts (same_label tx v.by) (is_undecided v.standing) t).1)
     (λ t u. closed_snapshot v.by tx f o os e ∙ h u)
 
-written_end : (tx : Label) (st : Standing) (os : Openings) → is_undecided st ≡ false → (v : Version) → WrittenAt os v → WrittenAt (without_opening tx os) (restood tx st v)
+written_end : (tx : Label) (st : VersionState) (os : Openings) → is_undecided st ≡ false → (v : Version) → WrittenAt os v → WrittenAt (without_opening tx os) (restood tx st v)
 written_end tx st os d v h = cond_both (same_label tx v.by && is_undecided v.standing) (record v { standing = st }) v (WrittenAt (without_opening tx os))
     (λ t u. absurd (false≢true (sym d ∙ u)))
     (λ t u. ap snapshot_in (find_without v.by tx os ∙ cond-true (not (same_label tx v.by)) (opening_in v.by os) None (ap not (other t u))) ∙ h u)
@@ -78,7 +78,7 @@ written_end tx st os d v h = cond_both (same_label tx v.by && is_undecided v.sta
         (λ (s : same_label tx v.by ≡ false). s)
         (cases_Bool (same_label tx v.by))
 
-timely_end : (e : EngineTable) (tx : Label) (st : Standing) (stamped : List (ℕ × Label)) (voided : List ℕ) → is_undecided st ≡ false → Each (Sound (without_opening tx e.openings)) (restand tx st e.versions) → Timely e
+timely_end : (e : EngineTable) (tx : Label) (st : VersionState) (stamped : List (ℕ × Label)) (voided : List ℕ) → is_undecided st ≡ false → Each (Sound (without_opening tx e.openings)) (restand tx st e.versions) → Timely e
     → Timely (record e { versions = restand tx st e.versions; openings = without_opening tx e.openings; stamped = stamped; voided = voided })
 timely_end e tx st stamped voided d so h = record {
   sound = so;
@@ -143,12 +143,12 @@ dropped_not : (n : ℕ) → Dropped ≡ Stamped n → ⊥
 dropped_not n q = cc
 
 -- a new standing of another number
-restood_at : (n a : ℕ) (tx : Label) (st : Standing) → (st ≡ Stamped n → ⊥) → (v : Version) → (v.standing ≡ Stamped n → v.snapshot ≡ a) → (restood tx st v).standing ≡ Stamped n → (restood tx st v).snapshot ≡ a
+restood_at : (n a : ℕ) (tx : Label) (st : VersionState) → (st ≡ Stamped n → ⊥) → (v : Version) → (v.standing ≡ Stamped n → v.snapshot ≡ a) → (restood tx st v).standing ≡ Stamped n → (restood tx st v).snapshot ≡ a
 restood_at n a tx st ne v h = cond_both (same_label tx v.by && is_undecided v.standing) (record v { standing = st }) v (λ (x : Version). x.standing ≡ Stamped n → x.snapshot ≡ a)
     (λ t q. absurd (ne q))
     (λ t q. h q)
 
-restand_at : (n a : ℕ) (tx : Label) (st : Standing) (vs : List Version) → (st ≡ Stamped n → ⊥) → Each (λ (v : Version). v.standing ≡ Stamped n → v.snapshot ≡ a) vs
+restand_at : (n a : ℕ) (tx : Label) (st : VersionState) (vs : List Version) → (st ≡ Stamped n → ⊥) → Each (λ (v : Version). v.standing ≡ Stamped n → v.snapshot ≡ a) vs
     → Each (λ (v : Version). v.standing ≡ Stamped n → v.snapshot ≡ a) (restand tx st vs)
 restand_at n a tx st vs ne h = each_map_from (λ (v : Version). v.standing ≡ Stamped n → v.snapshot ≡ a) (λ (v : Version). v.standing ≡ Stamped n → v.snapshot ≡ a) (restood tx st) (restood_at n a tx st ne) vs h
 

@@ -57,17 +57,17 @@ abbrev pub view : Tables → List Commit → ℕ → List Write → Tables
 view opening order p ws = after_writes (state opening (take p order)) ws
 
 -- a row's table and key
-abbrev pub Place : Type 0
-Place = ℕ × Value
+abbrev pub RowId : Type 0
+RowId = ℕ × Value
 
 -- by table, and within a table by key
-abbrev pub place_cmp : Place → Place → Ordering
-place_cmp a b = ordering_then (nat_cmp a.0 b.0) (value_cmp a.1 b.1)
+abbrev pub row_id_cmp : RowId → RowId → Ordering
+row_id_cmp a b = ordering_then (nat_cmp a.0 b.0) (value_cmp a.1 b.1)
 
-abbrev pub noted : List (Place × Option RowOf) → Write → List (Place × Option RowOf)
-noted rows w = put place_cmp (w.table, w.key) w.row rows
+abbrev pub noted : List (RowId × Option RowOf) → Write → List (RowId × Option RowOf)
+noted rows w = put row_id_cmp (w.table, w.key) w.row rows
 
-abbrev pub write_of : Place × Option RowOf → Write
+abbrev pub write_of : RowId × Option RowOf → Write
 write_of e = record { table = e.0.0; key = e.0.1; row = e.1 }
 
 -- what these writes come to: of each row the last write, by table and within a table by key

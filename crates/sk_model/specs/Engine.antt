@@ -16,18 +16,18 @@ abbrev pub label_cmp : Label → Label → Ordering
 label_cmp x y = ordering_then (nat_cmp x.session y.session) (nat_cmp x.k y.k)
 
 -- how a version of a row stands: its transaction is live, or closed with a floor, or committed with a number, or gone
-pub data Standing : Type 0 where
-  Open : Standing
-  Closed : (floor : ℕ) → Standing
-  Stamped : (n : ℕ) → Standing
-  Dropped : Standing
+pub data VersionState : Type 0 where
+  Open : VersionState
+  Closed : (floor : ℕ) → VersionState
+  Stamped : (n : ℕ) → VersionState
+  Dropped : VersionState
 
 -- what one transaction wrote to one row, and the snapshot that it had
 pub record Version : Type 0 where
   pub by : Label
   pub snapshot : ℕ
   pub write : Write
-  pub standing : Standing
+  pub standing : VersionState
 
 -- a transaction that has opened the engine: its snapshot, and its floor once it is closed
 pub record Opening : Type 0 where
@@ -76,32 +76,32 @@ abbrev pub keeps : EngineName → List Table → ℕ → Bool
 keeps name catalog t = is_kept name (slice_get catalog t)
 
 -- a stamped version with a number up to s
-abbrev pub is_upto : ℕ → Standing → Bool
+abbrev pub is_upto : ℕ → VersionState → Bool
 is_upto s Open = false
 is_upto s (Closed f) = false
 is_upto s (Stamped n) = nat_le n s
 is_upto s Dropped = false
 
-abbrev pub is_open : Standing → Bool
+abbrev pub is_open : VersionState → Bool
 is_open Open = true
 is_open (Closed f) = false
 is_open (Stamped n) = false
 is_open Dropped = false
 
 -- closed with a floor below s
-abbrev pub is_closed_below : ℕ → Standing → Bool
+abbrev pub is_closed_below : ℕ → VersionState → Bool
 is_closed_below s Open = false
 is_closed_below s (Closed f) = nat_lt f s
 is_closed_below s (Stamped n) = false
 is_closed_below s Dropped = false
 
-abbrev pub is_undecided : Standing → Bool
+abbrev pub is_undecided : VersionState → Bool
 is_undecided Open = true
 is_undecided (Closed f) = true
 is_undecided (Stamped n) = false
 is_undecided Dropped = false
 
-abbrev pub is_stamped : Standing → Bool
+abbrev pub is_stamped : VersionState → Bool
 is_stamped Open = false
 is_stamped (Closed f) = false
 is_stamped (Stamped n) = true

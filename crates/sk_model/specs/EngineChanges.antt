@@ -8,14 +8,14 @@ use Rattle.sk_model.specs.declared.commit.Write.{Write}
 use Rattle.sk_model.specs.declared.call.EngineCall.{EngineCall}
 use Rattle.sk_model.specs.declared.call.EngineCall.TheVariants as call
 use Rattle.sk_model.specs.Records.{same_label}
-use Rattle.sk_model.specs.Engine.{label_cmp, Standing, Open, Closed, Stamped, Dropped, Version, Opening, Openings, EngineTable, is_open, is_undecided, is_of, opening_of, snapshot_of, write_at}
+use Rattle.sk_model.specs.Engine.{label_cmp, VersionState, Open, Closed, Stamped, Dropped, Version, Opening, Openings, EngineTable, is_open, is_undecided, is_of, opening_of, snapshot_of, write_at}
 use Rattle.sk_model.specs.EngineReplies.{purged_to}
 
 -- each version of the transaction that is open or closed gets a new standing
-abbrev pub restood : Label → Standing → Version → Version
+abbrev pub restood : Label → VersionState → Version → Version
 restood tx standing v = cond (same_label tx v.by && is_undecided v.standing) (record v { standing = standing }) v
 
-abbrev pub restand : Label → Standing → List Version → List Version
+abbrev pub restand : Label → VersionState → List Version → List Version
 restand tx standing vs = map (restood tx standing) vs
 
 -- the transaction's own version of the row is replaced, or a new one stands behind the others

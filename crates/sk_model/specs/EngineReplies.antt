@@ -21,7 +21,7 @@ use Rattle.sk_model.specs.declared.call.EngineReply.{EngineReply}
 use Rattle.sk_model.specs.declared.call.EngineReply.TheVariants.{Done, Found, Rows, Number, Commits, Fault}
 use Rattle.sk_model.specs.Database.{Tables, row_of, table_of, after_writes, net}
 use Rattle.sk_model.specs.Records.{same_label}
-use Rattle.sk_model.specs.Engine.{Standing, Open, Closed, Stamped, Dropped, Version, Openings, EngineTable, is_upto, is_closed_below, is_undecided, is_stamped, is_of, snapshot_of, write_at}
+use Rattle.sk_model.specs.Engine.{VersionState, Open, Closed, Stamped, Dropped, Version, Openings, EngineTable, is_upto, is_closed_below, is_undecided, is_stamped, is_of, snapshot_of, write_at}
 
 -- what a transaction sees at the snapshot s: its own writes, and what is stamped with a number up to s
 abbrev pub is_seen : Label → ℕ → Version → Bool
@@ -64,14 +64,14 @@ scanned e tx t =
     busy_or (least_key None (filter (λ v. (v.write.table == t) && is_blocking tx (snapshot_of e tx) v) e.versions))
     (Rows (table_of (seen e tx (snapshot_of e tx)) t))
 
-abbrev pub why_undecided : Standing → Why
+abbrev pub why_undecided : VersionState → Why
 why_undecided Open = why.Open
 why_undecided (Closed f) = why.Closed
 why_undecided (Stamped n) = why.Open
 why_undecided Dropped = why.Open
 
 -- a stamped version past the snapshot is in the way
-abbrev pub past_of : ℕ → Label → Standing → EngineReply
+abbrev pub past_of : ℕ → Label → VersionState → EngineReply
 past_of s by Open = Done
 past_of s by (Closed f) = Done
 past_of s by (Stamped n) = cond (nat_lt s n) (Fault (fault.Conflict by (why.Past n s))) Done
@@ -111,7 +111,7 @@ top_number e = fold (λ m p. max m p.0) (fold max 0 e.voided) e.stamped
 abbrev pub horizon_of : EngineTable → ℕ
 horizon_of e = climb (top_number e) (is_used e) e.start
 
-abbrev pub stamps : ℕ → Standing → Bool
+abbrev pub stamps : ℕ → VersionState → Bool
 stamps n Open = false
 stamps n (Closed f) = false
 stamps n (Stamped m) = n == m

@@ -133,18 +133,18 @@ answer_on catalog db s None = refused err.Table
 answer_on catalog db s (Some t) = answer_in (columns_at catalog t) t s (table_of db t) (refusal_in (columns_at catalog t) s)
 
 -- the table that a statement names, where it is the database that answers
-abbrev pub table_said : Statement → Option (List ℕ)
-table_said (statement.Begin begun) = None
-table_said statement.Commit = None
-table_said statement.Rollback = None
-table_said (statement.Insert table values) = Some table
-table_said (statement.Select table names e) = Some table
-table_said (statement.Update table sets e) = Some table
-table_said (statement.Delete table e) = Some table
+abbrev pub target_table : Statement → Option (List ℕ)
+target_table (statement.Begin begun) = None
+target_table statement.Commit = None
+target_table statement.Rollback = None
+target_table (statement.Insert table values) = Some table
+target_table (statement.Select table names e) = Some table
+target_table (statement.Update table sets e) = Some table
+target_table (statement.Delete table e) = Some table
 
 -- what the database answers, where it is the database that answers
 abbrev pub answer_of : List Table → Tables → Statement → Option Answer
-answer_of catalog db s = option_map (λ name. answer_on catalog db s (table_at catalog name)) (table_said s)
+answer_of catalog db s = option_map (λ name. answer_on catalog db s (table_at catalog name)) (target_table s)
 
 abbrev pub reply_of : List Table → Tables → Statement → Option Reply
 reply_of catalog db s = option_map (λ a. a.0) (answer_of catalog db s)

@@ -7,7 +7,7 @@ use Rattle.sk_model.specs.declared.commit.Write.{Write}
 use Rattle.sk_model.specs.declared.commit.Commit.{Commit}
 use Rattle.sk_model.specs.Database.{net}
 use Rattle.sk_model.specs.Numbers.{Rises}
-use Rattle.sk_model.specs.Engine.{Standing, Open, Closed, Stamped, Dropped, Version}
+use Rattle.sk_model.specs.Engine.{VersionState, Open, Closed, Stamped, Dropped, Version}
 use Rattle.sk_model.specs.EngineReplies.{is_stamped_with}
 
 -- which number of a commit is of the engine
@@ -15,7 +15,7 @@ abbrev pub number_in : EngineName → Commit → Option ℕ
 number_in Mem c = c.mem
 number_in Store c = c.store
 
-abbrev pub number_of : Standing → Option ℕ
+abbrev pub number_of : VersionState → Option ℕ
 number_of Open = None
 number_of (Closed f) = None
 number_of (Stamped n) = Some n

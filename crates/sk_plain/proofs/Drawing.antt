@@ -8,7 +8,7 @@ use Rattle.std.proofs.Math.Bool.{or-false}
 use Rattle.std.specs.FinMap.Entries.{put, by_order}
 use Rattle.sk_rows.specs.declared.table.Table.{Table}
 use Rattle.sk_model.specs.declared.commit.Write.{Write}
-use Rattle.sk_model.specs.Database.{Place, place_cmp, noted, net, write_of}
+use Rattle.sk_model.specs.Database.{RowId, row_id_cmp, noted, net, write_of}
 use Rattle.sk_model.specs.Records.{some_writes}
 use Rattle.sk_plain.specs.Before.{PlacedRows}
 use Rattle.sk_plain.specs.Standing.{is_stored, wrote}
@@ -35,13 +35,13 @@ module _ (test : ℕ → Bool) where
 
   some_put : (w : Write) (es : PlacedRows) → some_of (map write_of (noted es w)) ≡ (test w.table || some_of (map write_of es))
   some_put w [] = refl
-  some_put w (e ∷ es) = by (some_put w es) (place_cmp (w.table, w.key) e.0) refl
+  some_put w (e ∷ es) = by (some_put w es) (row_id_cmp (w.table, w.key) e.0) refl
     where
-      by : some_of (map write_of (noted es w)) ≡ (test w.table || some_of (map write_of es)) → (o : Ordering) → place_cmp (w.table, w.key) e.0 ≡ o
-          → some_of (map write_of (by_order o (((w.table, w.key), w.row) ∷ e ∷ es) ((e.0, w.row) ∷ es) (e ∷ put place_cmp (w.table, w.key) w.row es))) ≡ (test w.table || (test e.0.0 || some_of (map write_of es)))
+      by : some_of (map write_of (noted es w)) ≡ (test w.table || some_of (map write_of es)) → (o : Ordering) → row_id_cmp (w.table, w.key) e.0 ≡ o
+          → some_of (map write_of (by_order o (((w.table, w.key), w.row) ∷ e ∷ es) ((e.0, w.row) ∷ es) (e ∷ put row_id_cmp (w.table, w.key) w.row es))) ≡ (test w.table || (test e.0.0 || some_of (map write_of es)))
       by rest Less is = refl
       by rest Equal is =
-          or_twice (test e.0.0) (some_of (map write_of es)) ∙ ap (λ (x : Place). test x.0 || (test e.0.0 || some_of (map write_of es))) (sym (same_place (w.table, w.key) e.0 is))
+          or_twice (test e.0.0) (some_of (map write_of es)) ∙ ap (λ (x : RowId). test x.0 || (test e.0.0 || some_of (map write_of es))) (sym (same_place (w.table, w.key) e.0 is))
       by rest Greater is = ap (λ b. test e.0.0 || b) rest ∙ or_swapped (test e.0.0) (test w.table) (some_of (map write_of es))
 
   some_noted : (ws : List Write) (es : PlacedRows) → some_of (map write_of (fold noted es ws)) ≡ (some_of (map write_of es) || some_of ws)

@@ -7,7 +7,7 @@ use Rattle.sk_rows.specs.declared.table.Table.{Table}
 use Rattle.sk_rows.specs.declared.statement.Statement.{Statement}
 use Rattle.sk_rows.specs.declared.statement.Statement.TheVariants as statement
 use Rattle.sk_model.specs.Names.{columns_at, table_at}
-use Rattle.sk_model.specs.Replies.{table_said}
+use Rattle.sk_model.specs.Replies.{target_table}
 use Rattle.sk_plain.specs.Session.{named}
 use Rattle.sk_plain.specs.Standing.{is_stored}
 
@@ -38,7 +38,7 @@ pub none_stored : (catalog : List Table) (t : ℕ) → slice_get catalog t ≡ N
 none_stored catalog t is = not_told (λ (x : Table). x.store) false catalog t is
 
 -- the table of a statement is found by its name, where it has one
-pub named_is : (catalog : List Table) (s : Statement) → named catalog s ≡ option_and_then (table_at catalog) (table_said s)
+pub named_is : (catalog : List Table) (s : Statement) → named catalog s ≡ option_and_then (table_at catalog) (target_table s)
 named_is catalog (statement.Begin begun) = refl
 named_is catalog statement.Commit = refl
 named_is catalog statement.Rollback = refl
@@ -47,10 +47,10 @@ named_is catalog (statement.Select table names e) = refl
 named_is catalog (statement.Update table sets e) = refl
 named_is catalog (statement.Delete table e) = refl
 
-pub none_named : (catalog : List Table) (s : Statement) → table_said s ≡ None → None ≡ named catalog s
+pub none_named : (catalog : List Table) (s : Statement) → target_table s ≡ None → None ≡ named catalog s
 none_named catalog s is = sym (named_is catalog s ∙ ap (option_and_then (table_at catalog)) is)
 
-pub some_named : (catalog : List Table) (s : Statement) (name : List ℕ) → table_said s ≡ Some name → table_at catalog name ≡ named catalog s
+pub some_named : (catalog : List Table) (s : Statement) (name : List ℕ) → target_table s ≡ Some name → table_at catalog name ≡ named catalog s
 some_named catalog s name is = sym (named_is catalog s ∙ ap (option_and_then (table_at catalog)) is)
 
 missing : {A X : Type 0} (xs : List X) (i : ℕ) → slice_get xs i ≡ None → i < length xs → A

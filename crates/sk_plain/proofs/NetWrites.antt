@@ -11,7 +11,7 @@ use Rattle.sk_rows.specs.declared.value.Value.{Value}
 use Rattle.sk_rows.specs.Values.{value_cmp}
 use Rattle.sk_model.specs.declared.commit.Write.{Write}
 use Rattle.sk_model.specs.Calls.{last_row}
-use Rattle.sk_model.specs.Database.{RowOf, Tables, Place, place_cmp, hits, row_of, after_writes, noted, net, write_of}
+use Rattle.sk_model.specs.Database.{RowOf, Tables, RowId, row_id_cmp, hits, row_of, after_writes, noted, net, write_of}
 use Rattle.sk_model.proofs.Lookups.{Sorted, same_table, row_after_writes, length_after_writes, sorted_after_writes, hits_is}
 use Rattle.sk_model.proofs.Nets.{place_cmp_total, net_row}
 use Rattle.sk_plain.specs.Before.{PlacedRows}
@@ -29,11 +29,11 @@ net_leaves db ws h =
     row_after_writes db (net ws) t q here ∙ net_row t q (row_of db t q) ws ∙ sym (row_after_writes db ws t q here))
 
 -- a place ties with that of a write that hits it
-ties : (t : ℕ) (q : Value) (w : Write) → eq_by_cmp place_cmp (t, q) (w.table, w.key) ≡ hits t q w
+ties : (t : ℕ) (q : Value) (w : Write) → eq_by_cmp row_id_cmp (t, q) (w.table, w.key) ≡ hits t q w
 ties t q w = sym (tied_then (nat_cmp t w.table) (value_cmp q w.key)) ∙ ap (λ b. b && is_eq (value_cmp q w.key)) (unsigned_tied t w.table)
 
 -- places that tie are equal
-pub same_place : (x y : Place) → place_cmp x y ≡ Equal → x ≡ y
+pub same_place : (x y : RowId) → row_id_cmp x y ≡ Equal → x ≡ y
 same_place x y e =
     let w : Write = write_of (y, None) in
     let is : (x.0 ≡ y.0) × (x.1 ≡ y.1) = hits_is x.0 x.1 w (sym (ties x.0 x.1 w) ∙ ap is_eq e) in
@@ -48,17 +48,17 @@ or_cond : (b : Bool) (r : Option RowOf) (f : Option (Option RowOf)) (o : Option 
 or_cond true r f o = refl
 or_cond false r f o = refl
 
-noted_row : (ws : List Write) (es : PlacedRows) (t : ℕ) (q : Value) (o : Option RowOf) → or_had (find place_cmp (t, q) (fold noted es ws)) o ≡ last_row t q (or_had (find place_cmp (t, q) es) o) ws
+noted_row : (ws : List Write) (es : PlacedRows) (t : ℕ) (q : Value) (o : Option RowOf) → or_had (find row_id_cmp (t, q) (fold noted es ws)) o ≡ last_row t q (or_had (find row_id_cmp (t, q) es) o) ws
 noted_row [] es t q o = refl
 noted_row (w ∷ ws) es t q o =
     noted_row ws (noted es w) t q o
-    ∙ ap (λ f. last_row t q (or_had f o) ws) (find-put place_cmp place_cmp_total (t, q) (w.table, w.key) w.row es ∙ ap (λ b. cond b (Some w.row) (find place_cmp (t, q) es)) (ties t q w))
-    ∙ ap (λ r. last_row t q r ws) (or_cond (hits t q w) w.row (find place_cmp (t, q) es) o)
+    ∙ ap (λ f. last_row t q (or_had f o) ws) (find-put row_id_cmp place_cmp_total (t, q) (w.table, w.key) w.row es ∙ ap (λ b. cond b (Some w.row) (find row_id_cmp (t, q) es)) (ties t q w))
+    ∙ ap (λ r. last_row t q r ws) (or_cond (hits t q w) w.row (find row_id_cmp (t, q) es) o)
 
-pub noted_sorted : (ws : List Write) (es : PlacedRows) → T (is_sorted place_cmp es) → T (is_sorted place_cmp (fold noted es ws))
+pub noted_sorted : (ws : List Write) (es : PlacedRows) → T (is_sorted row_id_cmp es) → T (is_sorted row_id_cmp (fold noted es ws))
 noted_sorted [] es h = h
-noted_sorted (w ∷ ws) es h = noted_sorted ws (noted es w) (is_sorted-put place_cmp place_cmp_total (w.table, w.key) w.row es h)
+noted_sorted (w ∷ ws) es h = noted_sorted ws (noted es w) (is_sorted-put row_id_cmp place_cmp_total (w.table, w.key) w.row es h)
 
 -- a row after these writes is what was noted of it, or what it was
-pub row_after : (base : Tables) (ws : List Write) (t : ℕ) (q : Value) → t < length base → row_of (after_writes base ws) t q ≡ or_had (find place_cmp (t, q) (fold noted [] ws)) (row_of base t q)
+pub row_after : (base : Tables) (ws : List Write) (t : ℕ) (q : Value) → t < length base → row_of (after_writes base ws) t q ≡ or_had (find row_id_cmp (t, q) (fold noted [] ws)) (row_of base t q)
 row_after base ws t q l = row_after_writes base ws t q l ∙ sym (noted_row ws [] t q (row_of base t q))

@@ -9,7 +9,7 @@ use Rattle.std.specs.FinMap.Entries.{find, is_sorted, below_all}
 use Rattle.std.proofs.lemmas.Bool.{ltb-true, or_parts}
 use Rattle.sk_rows.specs.declared.value.Value.{Value}
 use Rattle.sk_model.specs.declared.commit.Write.{Write}
-use Rattle.sk_model.specs.Database.{RowOf, Tables, Place, place_cmp, hits, noted, net, write_of, row_of, after_writes}
+use Rattle.sk_model.specs.Database.{RowOf, Tables, RowId, row_id_cmp, hits, noted, net, write_of, row_of, after_writes}
 use Rattle.sk_model.specs.Calls.{last_row}
 use Rattle.sk_model.proofs.Lookups.{Sorted, row_after_writes, length_after_writes, sorted_after_writes, hits_is}
 use Rattle.sk_model.proofs.Nets.{place_cmp_total, net_row, each_net}
@@ -57,24 +57,24 @@ undone base ws h =
     (λ none. row_after_writes base ws t q there ∙ sym (net_row t q (row_of base t q) ws) ∙ unnoted_stays t q (fold noted [] ws) (row_of base t q) none))
 
 -- a place above is not tied
-above : (x y : Place) → place_cmp x y ≡ Less → is_eq (place_cmp y x) ≡ false
+above : (x y : RowId) → row_id_cmp x y ≡ Less → is_eq (row_id_cmp y x) ≡ false
 above x y less = ap is_eq (place_cmp_total.antisymm y x ∙ ap ordering_reverse less)
 
 -- each of these entries is found in a list
 abbrev FoundIn : PlacedRows → PlacedRows → Type 0
-FoundIn all es = AllByRecursion (λ (e : Place × Option RowOf). find place_cmp e.0 all ≡ Some e.1) es
+FoundIn all es = AllByRecursion (λ (e : RowId × Option RowOf). find row_id_cmp e.0 all ≡ Some e.1) es
 
-found_behind : (e : Place × Option RowOf) (all es : PlacedRows) → T (below_all place_cmp e.0 es) → FoundIn all es → FoundIn (e ∷ all) es
+found_behind : (e : RowId × Option RowOf) (all es : PlacedRows) → T (below_all row_id_cmp e.0 es) → FoundIn all es → FoundIn (e ∷ all) es
 found_behind e all [] h found = tt
 found_behind e all (f ∷ es) h found =
-    let hs : T (is_lt (place_cmp e.0 f.0)) × T (below_all place_cmp e.0 es) = parts (is_lt (place_cmp e.0 f.0)) (below_all place_cmp e.0 es) h in
-    (ap (λ b. cond b (Some e.1) (find place_cmp f.0 all)) (above e.0 f.0 (lesser (place_cmp e.0 f.0) hs.0)) ∙ found.0, found_behind e all es hs.1 found.1)
+    let hs : T (is_lt (row_id_cmp e.0 f.0)) × T (below_all row_id_cmp e.0 es) = parts (is_lt (row_id_cmp e.0 f.0)) (below_all row_id_cmp e.0 es) h in
+    (ap (λ b. cond b (Some e.1) (find row_id_cmp f.0 all)) (above e.0 f.0 (lesser (row_id_cmp e.0 f.0) hs.0)) ∙ found.0, found_behind e all es hs.1 found.1)
 
-found_each : (es : PlacedRows) → T (is_sorted place_cmp es) → FoundIn es es
+found_each : (es : PlacedRows) → T (is_sorted row_id_cmp es) → FoundIn es es
 found_each [] h = tt
 found_each (e ∷ es) h =
-    let hs : T (below_all place_cmp e.0 es) × T (is_sorted place_cmp es) = parts (below_all place_cmp e.0 es) (is_sorted place_cmp es) h in
-    (ap (λ o. cond (is_eq o) (Some e.1) (find place_cmp e.0 es)) (tied_itself place_cmp_total e.0), found_behind e es es hs.0 (found_each es hs.1))
+    let hs : T (below_all row_id_cmp e.0 es) × T (is_sorted row_id_cmp es) = parts (below_all row_id_cmp e.0 es) (is_sorted row_id_cmp es) h in
+    (ap (λ o. cond (is_eq o) (Some e.1) (find row_id_cmp e.0 es)) (tied_itself place_cmp_total e.0), found_behind e es es hs.0 (found_each es hs.1))
 
 -- what the tables have of noted rows is what was noted
 written_at : (base : Tables) (ws : List Write) (es : PlacedRows) → FoundIn (fold noted [] ws) es → Inside (length base) (map write_of es) → writes_at (after_writes base ws) (map (as_was base) es) ≡ map write_of es

@@ -10,7 +10,7 @@ ghost use Rattle.sk_plain.specs.Session.{named as named_in};
 ghost use Rattle.sk_plain.specs.Standing.{is_stored};
 
 use crate::maps::{RowMap, read};
-use sk_expr::{comes_to, key_read, table_said};
+use sk_expr::{comes_to, key_read, target_table};
 use sk_model::{Reply, WriteList};
 use sk_rows::{Catalog, NoMemory, Statement, Table};
 use std::alloc::Global;
@@ -22,7 +22,7 @@ pub(crate) type Answer = (Reply, WriteList);
 fn number_of(catalog: &Catalog, statement: &Statement) -> Option<u16>
     ensures { result ≡ named_in catalog.now statement.now }
 {
-    match table_said(statement) {
+    match target_table(statement) {
         None => None,
         Some(name) => catalog.find(name),
     }

@@ -17,14 +17,14 @@ pub(crate) type Before = BTreeMap<(u16, Value), Option<Row>>;
 
 #[tactic(auto, using(crate::proofs::Entries::find_is))]
 fn is_noted(before: &Before, place: &(u16, Value)) -> bool
-    ensures { result ≡ is_some (find spec.place_cmp place.now before.now.entries) }
+    ensures { result ≡ is_some (find spec.row_id_cmp place.now before.now.entries) }
 {
     before.contains_key(place)
 }
 
 #[tactic(auto, using(crate::proofs::Entries::put_is))]
 fn note_row(before: &mut Before, place: (u16, Value), row: Option<Row>) -> Result<(), NoMemory>
-    ensures { OnOk result (before.new.entries ≡ put spec.place_cmp place row before.old.entries) }
+    ensures { OnOk result (before.new.entries ≡ put spec.row_id_cmp place row before.old.entries) }
 {
     before.insert(place, row)?;
     Ok(())
