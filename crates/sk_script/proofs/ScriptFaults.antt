@@ -81,7 +81,7 @@ find long (q ∷ ps) p script m n place is =
           fails = rest.fails;
         }
 
-first_fault : (bytes : Text) (n place : ℕ) → script_of bytes ≡ Err (fault.At n place) → IsFirstFaultAt bytes n place
+pub first_fault : (bytes : Text) (n place : ℕ) → script_of bytes ≡ Err (fault.At n place) → IsFirstFaultAt bytes n place
 unfolding script_of
 first_fault bytes n place is =
     let long = nat_lt 16777216 (length bytes) in

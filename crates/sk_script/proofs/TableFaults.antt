@@ -95,7 +95,7 @@ no_comma v ts at is =
     let bad : true ≡ false = ap (λ w. sees (sign.Mark 44 0) (w ∷ words ts)) (sym is) ∙ at in
     absurd cc
 
-comma : (v : Token) (ts : List Token) → sees (sign.Mark 44 0) (words (v ∷ ts)) ≡ true → v.word ≡ word.Mark 44 0
+pub comma : (v : Token) (ts : List Token) → sees (sign.Mark 44 0) (words (v ∷ ts)) ≡ true → v.word ≡ word.Mark 44 0
 comma v ts at = let e = mark_at 44 0 (words (v ∷ ts)) at in cc
 
 length_words : (ts : List Token) → length ts ≤ length (words ts)

@@ -6,6 +6,7 @@ ghost use Rattle.sk_parse.specs.Input.{Reads};
 ghost use Rattle.sk_script.specs.Header as spec;
 ghost use Rattle.sk_script.specs.Lines.{IsLine, Gives};
 
+use crate::limits::{MOST_COLUMNS, MOST_TABLES};
 use crate::script::TableLine;
 use sk_lex::{Keyword, Token, Word};
 use sk_parse::{Cursor, Fault, ParseFault, Sign};
@@ -13,12 +14,6 @@ use sk_rows::{Column, ColumnList, Copies, NoMemory, Sort, Table, Txt, is_name};
 use std::alloc::Global;
 
 const COMMA: Sign = Sign::Mark(b',', 0);
-
-/// The most tables of a script.
-const MOST_TABLES: usize = 64;
-
-/// The most columns of a table.
-const MOST_COLUMNS: usize = 16;
 
 fn has_table(name: &Txt, tables: &[TableLine]) -> bool
     ensures { result ≡ spec.has_table name.now tables.now }
