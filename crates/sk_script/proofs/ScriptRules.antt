@@ -310,7 +310,6 @@ script_read bytes script is =
 pub grammar : IsGrammar
 grammar bytes script = (script_read bytes script, script_stands bytes script)
 
-
 pub alone : IsAlone
 alone bytes s t is_s is_t =
     let same : Ok s ≡ Ok t = sym (script_read bytes s is_s) ∙ script_read bytes t is_t in
