@@ -136,8 +136,7 @@ nothing = record { tables = []; lines = [] }
 unfoldable pub script_of : Text → Result Script ScriptFault
 script_of bytes = read_from (nat_lt longest_script (length bytes)) nothing 1 (pieces (take longest_script bytes))
 
--- what came back is what the bytes are, unless memory ran out
-abbrev pub Gives : Result Script ScriptFault → Result Script ScriptFault → Type 0
-Gives (Ok script) meant = meant ≡ Ok script
-Gives (Err (fault.At line place)) meant = meant ≡ Err (fault.At line place)
-Gives (Err fault.NoMemory) meant = Unit {0}
+-- memory was wanted
+abbrev pub wants : ScriptFault → Bool
+wants fault.NoMemory = true
+wants (fault.At line place) = false

@@ -1,9 +1,10 @@
 //! One line of a script.
 
 ghost use Rattle.std.specs.Prelude.{◌≡◌, ◌≤◌, length};
+ghost use Rattle.sk_rows.specs.Memory.{Gives};
 ghost use Rattle.sk_script.specs.Limits.{longest_line, longest_script};
 ghost use Rattle.sk_script.specs.Script as spec;
-ghost use Rattle.sk_script.specs.Lines.{Gives, IsLine};
+ghost use Rattle.sk_script.specs.Lines.{IsLine, wants};
 
 use crate::body::body;
 use crate::header::table_line;
@@ -42,7 +43,7 @@ fn good_len(line: &[u8]) -> usize
 /// The script, if nothing stands in the line which it passes over that may not be there.
 #[tactic(auto, unfolding(crate::specs::Script::passed))]
 fn passed(script: Script, line: &[u8], long: bool) -> Result<Script, ParseFault>
-    ensures { Gives result (spec.passed long script line.now) }
+    ensures { Gives wants result (spec.passed long script line.now) }
 {
     let good = good_len(line);
     if long || good < line.len() {
@@ -95,7 +96,7 @@ fn with_table(
     front: &Legible,
 ) -> Result<Script, ParseFault>
     requires { IsLine front.now.tokens front.now.end }
-    ensures { Gives result (spec.with_table script number front.now) }
+    ensures { Gives wants result (spec.with_table script number front.now) }
 {
     let Script { mut tables, lines } = script;
     let table = table_line(alloc, tables.as_slice(), front.tokens.as_slice(), front.end)?;
@@ -120,7 +121,7 @@ fn with_body(
     front: &Legible,
 ) -> Result<Script, ParseFault>
     requires { IsLine front.now.tokens front.now.end }
-    ensures { Gives result (spec.with_body script number front.now) }
+    ensures { Gives wants result (spec.with_body script number front.now) }
 {
     let Script { tables, mut lines } = script;
     let what = body(alloc, front.tokens.as_slice(), front.end)?;
@@ -143,7 +144,7 @@ pub fn with_line(
     long: bool,
 ) -> Result<Script, ParseFault>
     requires { length line.now ≤ longest_script }
-    ensures { Gives result (spec.with_line long script number line.now) }
+    ensures { Gives wants result (spec.with_line long script number line.now) }
 {
     if is_passed_over(line) {
         return passed(script, line, long);

@@ -3,6 +3,7 @@
 ghost use Rattle.std.specs.Prelude.{◌≡◌, ◌+◌, ◌≤◌, ◌<◌, [], ◌∷◌, length, map, IfSome, IfNone, IfOk, take};
 ghost use Rattle.std.specs.Option.{option_copied};
 ghost use Rattle.std.specs.List.{prefix_len};
+ghost use Rattle.sk_rows.specs.Memory.{Gives};
 ghost use Rattle.sk_script.specs.Faults.{IsAnswer};
 ghost use Rattle.sk_script.specs.Limits.{longest_script};
 ghost use Rattle.sk_script.specs.Script as spec;
@@ -81,7 +82,7 @@ fn with_last(
     long: bool,
 ) -> Result<Script, ScriptFault>
     requires { length line.now ≤ longest_script }
-    ensures { spec.Gives result (spec.with_last long script number line.now) }
+    ensures { Gives spec.wants result (spec.with_last long script number line.now) }
 {
     if line.is_empty() && !long {
         return Ok(script);
@@ -96,7 +97,7 @@ fn with_last(
 #[tactic(auto, using(crate::proofs::Cuts::one_line))]
 fn read_lines(alloc: Global, bytes: &[u8], long: bool) -> Result<Script, ScriptFault>
     requires { length bytes.now ≤ longest_script }
-    ensures { spec.Gives result (spec.read_from long spec.nothing 1 (spec.pieces bytes.now)) }
+    ensures { Gives spec.wants result (spec.read_from long spec.nothing 1 (spec.pieces bytes.now)) }
 {
     let mut rest = bytes;
     let mut script = Script {
@@ -130,7 +131,7 @@ fn front(bytes: &[u8], most: usize) -> &[u8]
 /// Reads the bytes up to the limit of scripts.
 #[tactic(auto, unfolding(crate::specs::Script::script_of))]
 fn read_front(alloc: Global, bytes: &[u8]) -> Result<Script, ScriptFault>
-    ensures { spec.Gives result (spec.script_of bytes.now) }
+    ensures { Gives spec.wants result (spec.script_of bytes.now) }
 {
     let long = bytes.len() > LONGEST_SCRIPT;
     read_lines(alloc, front(bytes, LONGEST_SCRIPT), long)
@@ -142,7 +143,7 @@ fn read_front(alloc: Global, bytes: &[u8]) -> Result<Script, ScriptFault>
 /// not ended, the end of a line where more was to come, and what passes the limits of a line or of the script.
 #[tactic(auto, using(crate::proofs::Takings::given_tables, crate::proofs::ScriptFaults::answered))]
 pub fn read_script(alloc: Global, bytes: &[u8]) -> Result<Script, ScriptFault>
-    ensures exact { spec.Gives result (spec.script_of bytes.now) }
+    ensures exact { Gives spec.wants result (spec.script_of bytes.now) }
 
     // The script by the rules of its grammar, or the first fault by them.
     ensures grammar { IsAnswer bytes.now result }
