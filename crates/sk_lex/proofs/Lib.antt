@@ -3,6 +3,7 @@ pub mod Begun
 pub mod Keywords
 pub mod Lexed
 pub mod Named
+pub mod Printable
 pub mod Scans
 pub mod Spans
 pub mod Words

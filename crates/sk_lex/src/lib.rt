@@ -6,7 +6,7 @@ mod laws;
 mod scanning;
 mod token;
 
-pub use laws::printed_words_are_read;
+pub use laws::{printed_words_are_read, tokens_are_printable};
 pub use scanning::{Scanned, Stop, scan, tokens};
 pub use token::{Keyword, LexFault, Token, TokenList, WORDS, Word};
 

@@ -103,6 +103,19 @@ impl<'a> Cursor<'a> {
         }
     }
 
+    /// Passes over the next word, which was found to be this; it does not fit where it was found to be nothing.
+    pub fn take<T>(&mut self, found: Option<T>) -> Result<T, Fault>
+        ensures { Reads (spec.take_some found self.old) result self.new }
+    {
+        match found {
+            Some(found) => {
+                self.skip();
+                Ok(found)
+            }
+            None => Err(self.refuse()),
+        }
+    }
+
     /// Whether the next word is this sign.
     #[tactic(auto, unfolding(crate::specs::Input::sees))]
     pub fn sees(&self, sign: Sign) -> bool

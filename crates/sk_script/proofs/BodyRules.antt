@@ -178,11 +178,11 @@ all_words : (ts : List Token) → list_all goes (words ts) ≡ list_all goes_on 
 all_words [] = refl
 all_words (t ∷ ts) = ap (λ b. goes_on t && b) (all_words ts)
 
-statement_read : (ts : List Token) (end : ℕ) (ws : List Word) (s : Statement) → words ts ≡ ws → Says ws s → statement ts end ≡ Ok s
+pub statement_read : (ts : List Token) (end : ℕ) (ws : List Word) (s : Statement) → words ts ≡ ws → Says ws s → statement ts end ≡ Ok s
 unfolding statement
 statement_read ts end ws s is says = ap (answer ts end) (whole_read (words ts) s (subst (λ l. Says l s) (sym is) says))
 
-open_tokens : (ts : List Token) (ws : List Word) (s : Statement) → words ts ≡ ws → Says ws s → list_all goes_on ts ≡ true
+pub open_tokens : (ts : List Token) (ws : List Word) (s : Statement) → words ts ≡ ws → Says ws s → list_all goes_on ts ≡ true
 open_tokens ts ws s is says = sym (all_words ts) ∙ ap (list_all goes) is ∙ said_free ws s says
 
 session_read : (n : ℕ) → IsSession n → (t c : Token) (ts : List Token) (end : ℕ) (s : Statement) → t.word ≡ word.Number n → c.word ≡ word.Mark 58 0 → said ts end ≡ Ok s

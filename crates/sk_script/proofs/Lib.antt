@@ -2,6 +2,8 @@ pub mod BodyFaults
 pub mod BodyRules
 pub mod Columns
 pub mod Cuts
+pub mod FaultsRead
+pub mod FaultsStand
 pub mod LineFaults
 pub mod LineRules
 pub mod NewTables
@@ -10,6 +12,7 @@ pub mod Parts
 pub mod Rising
 pub mod ScriptFaults
 pub mod ScriptRules
+pub mod TableFails
 pub mod TableFaults
 pub mod TableRules
 pub mod Takings

@@ -31,13 +31,13 @@ length_words : (ts : List Token) → length (words ts) ≡ length ts
 length_words [] = refl
 length_words (t ∷ ts) = ap suc (length_words ts)
 
-place_is : (end : ℕ) (us vs ts : List Token) → ts ≡ us ++ vs → place ts end (length (words vs)) ≡ place_of end vs
+pub place_is : (end : ℕ) (us vs ts : List Token) → ts ≡ us ++ vs → place ts end (length (words vs)) ≡ place_of end vs
 unfolding place
 place_is end us vs ts split =
     let before : length ts - length (words vs) ≡ length us = omega (arith, ap length split, length-append us vs, length_words vs) in
     ap (λ k. place_of end (drop k ts)) before ∙ ap (λ l. place_of end (drop (length us) l)) split ∙ ap (place_of end) (drop-append_seam us vs)
 
-begins_some : (lines : List ScriptLine) (ts : List Token) → is_header lines ts ≡ true → (t : Token) × (ts ≡ t ∷ rest_of ts)
+pub begins_some : (lines : List ScriptLine) (ts : List Token) → is_header lines ts ≡ true → (t : Token) × (ts ≡ t ∷ rest_of ts)
 begins_some [] (t ∷ ts) is = (t, refl)
 begins_some [] [] is = absurd cc
 begins_some (l ∷ ls) ts is = absurd cc

@@ -14,6 +14,7 @@ use Rattle.sk_lex.specs.declared.token.Word.TheVariants as word
 use Rattle.sk_lex.specs.Front.{Text, begins, front, is_pair, is_single, mark_at}
 use Rattle.sk_lex.specs.Scanning.{Scan, begun, scan, scan_from, scan_on, tokens, tokens_by}
 use Rattle.sk_lex.proofs.Begun.{all_of_line}
+use Rattle.sk_lex.proofs.Printable.{tokens_printable}
 use Rattle.sk_rows.specs.declared.table.Table.{Table}
 use Rattle.sk_rows.specs.Catalog.{add_fault}
 use Rattle.sk_rows.specs.Text.{are_printable, is_printable}
@@ -207,7 +208,7 @@ front_words true script n line after header e =
     let is = legible_plain line whole.found whole.short whole.cut in
     let begins = header_words script.lines whole.found (ap (λ (f : Legible). is_header script.lines f.tokens) (sym is) ∙ header) in
     let made = ap (λ (f : Legible). table_line script.tables f.tokens f.end) (sym is) ∙ t.1 in
-    let has : HasWords line (words whole.found) = record { short = whole.short; found = whole.found; cut = whole.cut; words = refl } in
+    let has : HasWords line (words whole.found) = record { short = whole.short; printable = tokens_printable line whole.found whole.cut; found = whole.found; cut = whole.cut; words = refl } in
     subst (Adds script n line) same
     (Adds.makes (words whole.found) t.0 begins.first has (table_of script (length line) whole.found t.0 begins made) (line_taken script.tables whole.found (length line) t.0 made))
 front_words false script n line after header e =
@@ -218,7 +219,7 @@ front_words false script n line after header e =
     let same : line_added script n what.0 ≡ after = cc rest.2 in
     let is = legible_plain line whole.found whole.short whole.cut in
     let made = ap (λ (f : Legible). body f.tokens f.end) (sym is) ∙ what.1 in
-    let has : HasWords line (words whole.found) = record { short = whole.short; found = whole.found; cut = whole.cut; words = refl } in
+    let has : HasWords line (words whole.found) = record { short = whole.short; printable = tokens_printable line whole.found whole.cut; found = whole.found; cut = whole.cut; words = refl } in
     subst (Adds script n line) same (Adds.speaks (words whole.found) what.0 has (body_words whole.found (length line) what.0 made))
 
 pub line_adds : (script : Script) (n : ℕ) (line : Text) (after : Script) → with_line false script n line ≡ Ok after → Adds script n line after
@@ -235,17 +236,17 @@ with_words script n line w ws has =
     ap (λ b. cond b (passed false script line) (with_front script n (legible false line))) (not_passed line has.found w ws has.cut has.words)
     ∙ ap (with_front script n) (legible_plain line has.found has.short has.cut)
 
-header_is : (lines : List ScriptLine) (ts : List Token) (ws : List Word) → lines ≡ [] → words ts ≡ word.Key key.Table ∷ ws → is_header lines ts ≡ true
+pub header_is : (lines : List ScriptLine) (ts : List Token) (ws : List Word) → lines ≡ [] → words ts ≡ word.Key key.Table ∷ ws → is_header lines ts ≡ true
 header_is [] (t ∷ ts) ws none is = let head : t.word ≡ word.Key key.Table = cc in ap is_table head
 header_is [] [] ws none is = absurd cc
 header_is (l ∷ ls) ts ws none is = absurd cc
 
-no_header : (lines : List ScriptLine) (ts : List Token) (n : ℕ) (ws : List Word) → words ts ≡ word.Number n ∷ ws → is_header lines ts ≡ false
+pub no_header : (lines : List ScriptLine) (ts : List Token) (n : ℕ) (ws : List Word) → words ts ≡ word.Number n ∷ ws → is_header lines ts ≡ false
 no_header [] (t ∷ ts) n ws is = let head : t.word ≡ word.Number n = cc in ap is_table head
 no_header [] [] n ws is = refl
 no_header (l ∷ ls) ts n ws is = refl
 
-table_line_read : (script : Script) (ts : List Token) (end : ℕ) (ws : List Word) (t : Table) → words ts ≡ ws → IsTable ws t → add_fault (map (λ l. l.table) script.tables) t ≡ None
+pub table_line_read : (script : Script) (ts : List Token) (end : ℕ) (ws : List Word) (t : Table) → words ts ≡ ws → IsTable ws t → add_fault (map (λ l. l.table) script.tables) t ≡ None
     → table_line script.tables ts end ≡ Ok t
 unfolding table_line
 table_line_read script ts end ws t is made taken =

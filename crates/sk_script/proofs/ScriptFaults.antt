@@ -4,12 +4,13 @@ use Rattle.std.specs.Prelude.{nat_lt, Result, Ok, Err}
 use Rattle.sk_lex.specs.Front.{Text}
 use Rattle.sk_parse.specs.declared.fault.ParseFault.{ParseFault}
 use Rattle.sk_parse.specs.declared.fault.ParseFault.TheVariants as parse
+use Rattle.sk_rows.specs.Memory.{Gives}
 use Rattle.sk_script.specs.declared.script.Script.{Script}
 use Rattle.sk_script.specs.declared.script.ScriptFault.{ScriptFault}
 use Rattle.sk_script.specs.declared.script.ScriptFault.TheVariants as fault
 use Rattle.sk_script.specs.Faults.{IsAnswer, IsFirstFaultAt, is_cut, line_of}
 use Rattle.sk_script.specs.Rules.{IsScript}
-use Rattle.sk_script.specs.Script.{Gives, gone_on, is_nil, nothing, pieces, read_from, script_of, with_last, with_line, without_return}
+use Rattle.sk_script.specs.Script.{gone_on, is_nil, nothing, pieces, read_from, script_of, with_last, wants, with_line, without_return}
 use Rattle.sk_script.proofs.BodyFaults.{FailsAt}
 use Rattle.sk_script.proofs.Cuts.{some_piece}
 use Rattle.sk_script.proofs.LineFaults.{line_fault}
@@ -81,7 +82,7 @@ find long (q ∷ ps) p script m n place is =
           fails = rest.fails;
         }
 
-first_fault : (bytes : Text) (n place : ℕ) → script_of bytes ≡ Err (fault.At n place) → IsFirstFaultAt bytes n place
+pub first_fault : (bytes : Text) (n place : ℕ) → script_of bytes ≡ Err (fault.At n place) → IsFirstFaultAt bytes n place
 unfolding script_of
 first_fault bytes n place is =
     let long = nat_lt 16777216 (length bytes) in
@@ -104,7 +105,7 @@ no_script bytes n place is script stands =
     absurd cc
 
 -- of what came back for the bytes
-pub answered : (bytes : Text) (result : Result Script ScriptFault) → Gives result (script_of bytes) → IsAnswer bytes result
+pub answered : (bytes : Text) (result : Result Script ScriptFault) → Gives wants result (script_of bytes) → IsAnswer bytes result
 answered bytes (Ok script) is = script_stands bytes script is
 answered bytes (Err (fault.At n place)) is = (no_script bytes n place is, first_fault bytes n place is)
 answered bytes (Err fault.NoMemory) is = tt

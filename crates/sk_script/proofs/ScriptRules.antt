@@ -178,7 +178,7 @@ run_all (line ∷ lines) script n last first is =
 
 -- ---- what stands by the rules is read
 
-bodies_run : (n : ℕ) (lines : List Text) (said : List ScriptLine) → AreBodies n lines said → (ts : List TableLine) (before : List ScriptLine)
+pub bodies_run : (n : ℕ) (lines : List Text) (said : List ScriptLine) → AreBodies n lines said → (ts : List TableLine) (before : List ScriptLine)
     → run (record { tables = ts; lines = before }) n lines ≡ Ok (record { tables = ts; lines = before ++ said })
 bodies_run _ _ _ (AreBodies.none n) ts before = ap (λ l. Ok (record { tables = ts; lines = l })) (sym (append-nil before))
 bodies_run _ _ _ (AreBodies.passed n line lines said is more) ts before =
@@ -194,7 +194,7 @@ bodies_run _ _ _ (AreBodies.body n line lines said ws what has made more) ts bef
 abbrev tables_of : List TableLine → List Table
 tables_of = map (λ l. l.table)
 
-headers_run : (n : ℕ) (lines : List Text) (tables : List TableLine) → AreHeaders n lines tables → (before : List TableLine) (bodies : List Text) → CanAdd (tables_of before) (tables_of tables)
+pub headers_run : (n : ℕ) (lines : List Text) (tables : List TableLine) → AreHeaders n lines tables → (before : List TableLine) (bodies : List Text) → CanAdd (tables_of before) (tables_of tables)
     → run (record { tables = before; lines = [] }) n (lines ++ bodies) ≡ run (record { tables = before ++ tables; lines = [] }) (n + length lines) bodies
 headers_run _ _ _ (AreHeaders.none n) before bodies taken =
     let none : n ≡ n + 0 = omega arith in
@@ -309,7 +309,6 @@ script_read bytes script is =
 
 pub grammar : IsGrammar
 grammar bytes script = (script_read bytes script, script_stands bytes script)
-
 
 pub alone : IsAlone
 alone bytes s t is_s is_t =

@@ -95,7 +95,7 @@ no_comma v ts at is =
     let bad : true ≡ false = ap (λ w. sees (sign.Mark 44 0) (w ∷ words ts)) (sym is) ∙ at in
     absurd cc
 
-comma : (v : Token) (ts : List Token) → sees (sign.Mark 44 0) (words (v ∷ ts)) ≡ true → v.word ≡ word.Mark 44 0
+pub comma : (v : Token) (ts : List Token) → sees (sign.Mark 44 0) (words (v ∷ ts)) ≡ true → v.word ≡ word.Mark 44 0
 comma v ts at = let e = mark_at 44 0 (words (v ∷ ts)) at in cc
 
 length_words : (ts : List Token) → length ts ≤ length (words ts)
@@ -147,6 +147,7 @@ module _ (end : ℕ) (name : List ℕ) (store : Bool) where
       by _ (View.reads t u rest c split is_column) e =
           let r = loop (length (words rest)) (c ∷ []) rest (length_words rest) k e in
           (t ∷ u ∷ r.0, r.1, split ∙ ap (λ l. t ∷ u ∷ l) r.2, r.3, subst (λ l. ColumnFault end [] l (place_of end r.1)) (sym split) (behind_fault end [] t u c is_column rest (place_of end r.1) r.4))
+
 -- ---- the whole
 
 engine_fault : (tables : List TableLine) (end : ℕ) (t : Token) (ts : List Token) (name : List ℕ) → new_table tables t.word ≡ Some name → (k : ℕ)

@@ -7,6 +7,7 @@ use Rattle.sk_rows.specs.declared.table.Table.{Table}
 use Rattle.sk_rows.specs.Catalog.{add_fault}
 use Rattle.sk_parse.specs.declared.fault.ParseFault.{ParseFault}
 use Rattle.sk_script.specs.declared.legible.Legible.{Legible}
+use Rattle.sk_rows.specs.Memory.{Gives}
 use Rattle.sk_script.specs.declared.script.Script.{Script}
 use Rattle.sk_script.specs.declared.script.ScriptFault.{ScriptFault}
 use Rattle.sk_script.specs.declared.script.ScriptFault.TheVariants as fault
@@ -14,7 +15,7 @@ use Rattle.sk_script.specs.declared.script.TableLine.{TableLine}
 use Rattle.sk_script.specs.Body.{body}
 use Rattle.sk_script.specs.Header.{table_line}
 use Rattle.sk_script.specs.Legible.{legible}
-use Rattle.sk_script.specs.Script.{Gives, and_then, behind, gone_on, is_header, is_nil, is_passed_over, line_added, nothing, passed, pieces, read_from, script_of, table_added, with_body, with_front, with_last, with_line, with_table, without_return}
+use Rattle.sk_script.specs.Script.{and_then, behind, gone_on, is_header, is_nil, is_passed_over, line_added, nothing, passed, pieces, read_from, script_of, table_added, wants, with_body, with_front, with_last, with_line, with_table, without_return}
 use Rattle.sk_script.specs.Tables.{CanAdd}
 use Rattle.sk_script.proofs.NewTables.{line_taken}
 
@@ -113,7 +114,7 @@ unfolding script_of
 script_tables bytes script e = taken_from _ nothing 1 (pieces (take 16777216 bytes)) script tt e
 
 -- of what came back for the bytes
-pub given_tables : (bytes : Text) (result : Result Script ScriptFault) → Gives result (script_of bytes) → IfOk result (λ script. CanAdd [] (map (λ l. l.table) script.tables))
+pub given_tables : (bytes : Text) (result : Result Script ScriptFault) → Gives wants result (script_of bytes) → IfOk result (λ script. CanAdd [] (map (λ l. l.table) script.tables))
 given_tables bytes (Ok script) e = script_tables bytes script e
 given_tables bytes (Err (fault.At line place)) e = tt
 given_tables bytes (Err fault.NoMemory) e = tt

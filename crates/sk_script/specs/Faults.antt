@@ -1,5 +1,5 @@
 -- The first fault of a script: its line is the first that has one, and in that line all before its place fits.
-use Rattle.std.specs.Prelude.{◌≡◌, ◌<◌, ℕ, ◌+◌, Bool, true, false, nat_lt, List, [], ◌∷◌, ◌++◌, length, map, take, Option, Some, None, Result, Ok, Err, ◌⊎◌}
+use Rattle.std.specs.Prelude.{◌≡◌, ◌↔◌, ◌<◌, ℕ, ◌+◌, Bool, true, false, nat_lt, List, [], ◌∷◌, ◌++◌, length, map, take, Option, Some, None, Result, Ok, Err, ◌⊎◌}
 use Rattle.std.specs.List.{list_all}
 use Rattle.sk_lex.specs.declared.token.Token.{Token}
 use Rattle.sk_lex.specs.declared.token.Word.{Word}
@@ -21,8 +21,9 @@ use Rattle.sk_script.specs.declared.script.TableLine.{TableLine}
 use Rattle.sk_script.specs.Body.{goes_on, session_of}
 use Rattle.sk_script.specs.Header.{engine_of, is_bool_key, new_column, new_table, sort_of}
 use Rattle.sk_script.specs.Legible.{legible}
+use Rattle.sk_script.specs.Limits.{longest_script}
 use Rattle.sk_script.specs.Rules.{IsBody, IsScript, IsTable, Makes}
-use Rattle.sk_script.specs.Script.{good_len, is_header, is_passed_over, pieces, without_return}
+use Rattle.sk_script.specs.Script.{good_len, is_header, is_passed_over, pieces, script_of, without_return}
 
 -- no token follows, or one whose word is none of these
 abbrev pub Misses : {A : Type 0} → (Word → Option A) → List Token → Type 0
@@ -110,14 +111,18 @@ pub record IsFirstFaultAt (bytes : Text) (n place : ℕ) : Type 0 where
   pub before : List Text
   pub piece : Text
   pub behind : List Text
-  pub cut : pieces (take 16777216 bytes) ≡ before ++ piece ∷ behind
+  pub cut : pieces (take longest_script bytes) ≡ before ++ piece ∷ behind
   pub number : n ≡ 1 + length before
   pub script : Script
   pub made : Makes (map without_return before) script
-  pub fault : LineFault script (is_cut (nat_lt 16777216 (length bytes)) behind) (line_of piece behind) place
+  pub fault : LineFault script (is_cut (nat_lt longest_script (length bytes)) behind) (line_of piece behind) place
 
 -- What came back for the bytes: they are that script; or they are none, and the fault is their first.
 abbrev pub IsAnswer : Text → Result Script ScriptFault → Type 0
 IsAnswer bytes (Ok script) = IsScript bytes script
 IsAnswer bytes (Err (fault.At n place)) = ((script : Script) → ¬ IsScript bytes script) × IsFirstFaultAt bytes n place
 IsAnswer bytes (Err fault.NoMemory) = Unit {0}
+
+-- Bytes have this first fault by the rules exactly where it is the one that is read.
+abbrev pub IsPlaced : Type 0
+IsPlaced = (bytes : Text) (n place : ℕ) → IsFirstFaultAt bytes n place ↔ (script_of bytes ≡ Err (fault.At n place))

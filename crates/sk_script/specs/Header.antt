@@ -18,14 +18,15 @@ use Rattle.sk_parse.specs.declared.cursor.Sign.TheVariants as sign
 use Rattle.sk_parse.specs.Input.{Outcome, Parser, ◌>>=◌, eat, pure, refuse, next, taken}
 use Rattle.sk_parse.specs.Statements.{place_of}
 use Rattle.sk_script.specs.declared.script.TableLine.{TableLine}
+use Rattle.sk_script.specs.Limits.{most_columns, most_tables}
 
 -- some table has this name
 abbrev pub has_table : List ℕ → List TableLine → Bool
 has_table name = list_any (λ t. bytes_eq t.table.name name)
 
--- a name that none of the tables has, of which there may be 64
+-- a name that none of the tables has, where there may be one more
 abbrev pub new_table : List TableLine → Word → Option (List ℕ)
-new_table tables (word.Name t) = if is_name t && nat_lt (length tables) 64 && not (has_table t tables) then Some t else None
+new_table tables (word.Name t) = if is_name t && nat_lt (length tables) most_tables && not (has_table t tables) then Some t else None
 new_table tables _ = None
 
 unfoldable pub table_name : List TableLine → Parser (List ℕ)
@@ -40,9 +41,9 @@ engine_of _ = None
 unfoldable pub engine : Parser Bool
 engine = taken engine_of
 
--- a name that none of the columns has, of which there may be 16
+-- a name that none of the columns has, where there may be one more
 abbrev pub new_column : List Column → Word → Option (List ℕ)
-new_column columns (word.Name t) = if is_name t && nat_lt (length columns) 16 && not (has_column t columns) then Some t else None
+new_column columns (word.Name t) = if is_name t && nat_lt (length columns) most_columns && not (has_column t columns) then Some t else None
 new_column columns _ = None
 
 unfoldable pub column_name : List Column → Parser (List ℕ)

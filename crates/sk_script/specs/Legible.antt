@@ -7,6 +7,7 @@ use Rattle.sk_lex.specs.declared.token.Word.TheVariants as word
 use Rattle.sk_lex.specs.Front.{Text}
 use Rattle.sk_lex.specs.Scanning.{Scan, begun, scan}
 use Rattle.sk_script.specs.declared.legible.Legible.{Legible}
+use Rattle.sk_script.specs.Limits.{longest_line, longest_text}
 
 -- How many bytes a text holds that goes on with these, behind so many others. The flag: a quote was read, which ends
 -- the text unless a second follows.
@@ -17,7 +18,7 @@ held_from true n (b ∷ z) = if b == 39 then held_from false (n + 1) z else n
 
 -- the text whose quote stands at this place is past its limit
 unfoldable pub is_long : ℕ → Text → Bool
-is_long from line = nat_lt 255 (held_from false 0 (drop (from + 1) line))
+is_long from line = nat_lt longest_text (held_from false 0 (drop (from + 1) line))
 
 -- How many bytes stand before the first that fits no token. Of a text that is not ended, or is past its limit, it is
 -- the quote.
@@ -28,7 +29,7 @@ reach line (Some (stop.BadByte from place)) = if is_long from line then from els
 
 -- no line is read past its limit
 abbrev pub capped : ℕ → ℕ
-capped n = if nat_lt n 4096 then n else 4096
+capped n = if nat_lt n longest_line then n else longest_line
 
 -- where a text begins that holds the byte which fits no token
 abbrev pub open_from : Option Stop → ℕ → Option ℕ
@@ -44,7 +45,7 @@ abbrev pub front : Bool → Text → Scan → ℕ → Legible
 front long line s end = record {
   tokens = with_text s.0 end (open_from s.1 end);
   end = end;
-  spoilt = long || nat_lt 4096 (length line) || is_some s.1;
+  spoilt = long || nat_lt longest_line (length line) || is_some s.1;
 }
 
 abbrev pub front_by : Bool → Text → Scan → Legible
@@ -53,4 +54,4 @@ front_by long line s = front long line s (capped (reach line s.1))
 -- The front of a line, up to the first byte that may not stand there: one that fits no token, the one past the limit
 -- of lines, or one past the limit of scripts, which stands behind the line. Tokens that begin before it are in it whole.
 unfoldable pub legible : Bool → Text → Legible
-legible long line = front_by long line (begun 4096 (scan line))
+legible long line = front_by long line (begun longest_line (scan line))

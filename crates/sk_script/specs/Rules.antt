@@ -21,6 +21,7 @@ use Rattle.sk_script.specs.declared.script.Line.TheVariants as line
 use Rattle.sk_script.specs.declared.script.Script.{Script}
 use Rattle.sk_script.specs.declared.script.ScriptLine.{ScriptLine}
 use Rattle.sk_script.specs.declared.script.TableLine.{TableLine}
+use Rattle.sk_script.specs.Limits.{longest_line, longest_script}
 use Rattle.sk_script.specs.Script.{goes_on, is_passed_over, script_of, without_return}
 use Rattle.sk_script.specs.Tables.{CanAdd}
 
@@ -56,13 +57,14 @@ pub data IsBody : List Word → Line → Type 0 where
 
 -- a line that is passed over: empty, spaces alone, or a comment, of bytes that may stand in a script
 pub record IsPassed (line : Text) : Type 0 where
-  pub short : length line ≤ 4096
+  pub short : length line ≤ longest_line
   pub empty : is_passed_over line ≡ true
   pub printable : are_printable line ≡ true
 
--- a line of these words
+-- a line of these words, of bytes that may stand in a script
 pub record HasWords (line : Text) (ws : List Word) : Type 0 where
-  pub short : length line ≤ 4096
+  pub short : length line ≤ longest_line
+  pub printable : are_printable line ≡ true
   pub found : List Token
   pub cut : tokens line ≡ Ok found
   pub words : words found ≡ ws
@@ -102,9 +104,9 @@ pub record Makes (lines : List Text) (script : Script) : Type 0 where
   pub taken : CanAdd [] (map (λ l. l.table) script.tables)
   pub said : AreBodies (1 + length headers) bodies script.lines
 
--- a script has at most 16,777,216 bytes
+-- a script is no longer than its limit
 pub record IsScript (bytes : Text) (script : Script) : Type 0 where
-  pub short : length bytes ≤ 16777216
+  pub short : length bytes ≤ longest_script
   pub lines : List Text
   pub cut : AreLines bytes lines
   pub made : Makes lines script

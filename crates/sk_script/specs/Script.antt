@@ -20,6 +20,7 @@ use Rattle.sk_script.specs.declared.script.ScriptLine.{ScriptLine}
 use Rattle.sk_script.specs.Body.{body}
 use Rattle.sk_script.specs.Header.{table_line}
 use Rattle.sk_script.specs.Legible.{capped, legible}
+use Rattle.sk_script.specs.Limits.{longest_script}
 
 -- ---- one line
 
@@ -133,10 +134,9 @@ nothing = record { tables = []; lines = [] }
 
 -- The script that the bytes are, or its first fault. What stands past the limit of scripts is not looked at.
 unfoldable pub script_of : Text → Result Script ScriptFault
-script_of bytes = read_from (nat_lt 16777216 (length bytes)) nothing 1 (pieces (take 16777216 bytes))
+script_of bytes = read_from (nat_lt longest_script (length bytes)) nothing 1 (pieces (take longest_script bytes))
 
--- what came back is what the bytes are, unless memory ran out
-abbrev pub Gives : Result Script ScriptFault → Result Script ScriptFault → Type 0
-Gives (Ok script) meant = meant ≡ Ok script
-Gives (Err (fault.At line place)) meant = meant ≡ Err (fault.At line place)
-Gives (Err fault.NoMemory) meant = Unit {0}
+-- memory was wanted
+abbrev pub wants : ScriptFault → Bool
+wants fault.NoMemory = true
+wants (fault.At line place) = false

@@ -3,8 +3,9 @@
 ghost use Rattle.std.specs.Prelude.{◌≡◌, ◌≤◌, length};
 ghost use Rattle.std.specs.List.{prefix_len};
 ghost use Rattle.sk_parse.specs.Statements.{place_of};
+ghost use Rattle.sk_rows.specs.Memory.{Gives};
 ghost use Rattle.sk_script.specs.Body as spec;
-ghost use Rattle.sk_script.specs.Lines.{IsLine, Gives};
+ghost use Rattle.sk_script.specs.Lines.{IsLine, wants};
 
 use crate::script::Line;
 use sk_lex::{Token, Word};
@@ -65,7 +66,7 @@ fn closed(
 ) -> Result<Statement, ParseFault>
     requires before { IsLine tokens.now end }
     requires behind { IsLine rest.now rest_end }
-    ensures { Gives result (spec.closed tokens.now end rest.now) }
+    ensures { Gives wants result (spec.closed tokens.now end rest.now) }
 {
     let found = statement(alloc, tokens, end)?;
     if rest.is_empty() {
@@ -79,7 +80,7 @@ fn closed(
 #[tactic(auto, using(crate::proofs::Rising::line_behind), unfolding(crate::specs::Body::said))]
 fn said(alloc: Global, tokens: &[Token], end: u32) -> Result<Statement, ParseFault>
     requires { IsLine tokens.now end }
-    ensures { Gives result (spec.said tokens.now end) }
+    ensures { Gives wants result (spec.said tokens.now end) }
 {
     let n = statement_len(tokens);
     match &tokens[n..] {
@@ -92,7 +93,7 @@ fn said(alloc: Global, tokens: &[Token], end: u32) -> Result<Statement, ParseFau
 #[tactic(auto, using(crate::proofs::Rising::line_behind), unfolding(crate::specs::Body::body))]
 pub fn body(alloc: Global, tokens: &[Token], end: u32) -> Result<Line, ParseFault>
     requires { IsLine tokens.now end }
-    ensures { Gives result (spec.body tokens.now end) }
+    ensures { Gives wants result (spec.body tokens.now end) }
 {
     let [first, behind @ ..] = tokens else {
         return Err(misfit(tokens, end));

@@ -3,9 +3,11 @@
 ghost use Rattle.std.specs.Prelude.{◌≡◌, IfOk};
 ghost use Rattle.sk_rows.specs.Catalog.{has_column as has_column_of};
 ghost use Rattle.sk_parse.specs.Input.{Reads};
+ghost use Rattle.sk_rows.specs.Memory.{Gives};
 ghost use Rattle.sk_script.specs.Header as spec;
-ghost use Rattle.sk_script.specs.Lines.{IsLine, Gives};
+ghost use Rattle.sk_script.specs.Lines.{IsLine, wants};
 
+use crate::limits::{MOST_COLUMNS, MOST_TABLES};
 use crate::script::TableLine;
 use sk_lex::{Keyword, Token, Word};
 use sk_parse::{Cursor, Fault, ParseFault, Sign};
@@ -13,12 +15,6 @@ use sk_rows::{Column, ColumnList, Copies, NoMemory, Sort, Table, Txt, is_name};
 use std::alloc::Global;
 
 const COMMA: Sign = Sign::Mark(b',', 0);
-
-/// The most tables of a script.
-const MOST_TABLES: usize = 64;
-
-/// The most columns of a table.
-const MOST_COLUMNS: usize = 16;
 
 fn has_table(name: &Txt, tables: &[TableLine]) -> bool
     ensures { result ≡ spec.has_table name.now tables.now }
@@ -49,11 +45,8 @@ fn table_name(alloc: Global, tables: &[TableLine], cursor: &mut Cursor<'_>) -> R
     let Some(word) = cursor.peek() else {
         return Err(cursor.refuse());
     };
-    let Some(found) = new_table(alloc, tables, word)? else {
-        return Err(cursor.refuse());
-    };
-    cursor.skip();
-    Ok(found)
+    let found = new_table(alloc, tables, word)?;
+    cursor.take(found)
 }
 
 fn engine_of(word: &Word) -> Option<bool>
@@ -74,11 +67,7 @@ fn engine(cursor: &mut Cursor<'_>) -> Result<bool, Fault>
     let Some(word) = cursor.peek() else {
         return Err(cursor.refuse());
     };
-    let Some(found) = engine_of(word) else {
-        return Err(cursor.refuse());
-    };
-    cursor.skip();
-    Ok(found)
+    cursor.take(engine_of(word))
 }
 
 fn has_column(name: &Txt, columns: &[Column]) -> bool
@@ -110,11 +99,8 @@ fn column_name(alloc: Global, columns: &[Column], cursor: &mut Cursor<'_>) -> Re
     let Some(word) = cursor.peek() else {
         return Err(cursor.refuse());
     };
-    let Some(found) = new_column(alloc, columns, word)? else {
-        return Err(cursor.refuse());
-    };
-    cursor.skip();
-    Ok(found)
+    let found = new_column(alloc, columns, word)?;
+    cursor.take(found)
 }
 
 fn sort_of(word: &Word) -> Option<Sort>
@@ -135,11 +121,7 @@ fn sort(cursor: &mut Cursor<'_>) -> Result<Sort, Fault>
     let Some(word) = cursor.peek() else {
         return Err(cursor.refuse());
     };
-    let Some(found) = sort_of(word) else {
-        return Err(cursor.refuse());
-    };
-    cursor.skip();
-    Ok(found)
+    cursor.take(sort_of(word))
 }
 
 /// Whether a column behind these would be a key of sort Bool.
@@ -222,7 +204,7 @@ pub fn table_line(
     end: u32,
 ) -> Result<Table, ParseFault>
     requires { IsLine tokens.now end }
-    ensures { Gives result (spec.table_line tables.now tokens.now end) }
+    ensures { Gives wants result (spec.table_line tables.now tokens.now end) }
 {
     let mut cursor = Cursor::new(tokens);
     cursor.skip();

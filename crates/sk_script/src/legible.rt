@@ -2,17 +2,13 @@
 
 ghost use Rattle.std.specs.Prelude.{◌≡◌, ◌≤◌, length, drop, false, IfOk};
 ghost use Rattle.sk_script.specs.Legible as spec;
+ghost use Rattle.sk_script.specs.Limits.{longest_line, longest_script};
 ghost use Rattle.sk_script.specs.Lines.{IsLine};
 
+use crate::limits::{LONGEST_LINE, LONGEST_TEXT};
 use sk_lex::{Scanned, Stop, Token, TokenList, Word, scan};
 use sk_rows::{NoMemory, Txt};
 use std::alloc::Global;
-
-/// The longest line, in bytes without its end.
-const LONGEST: usize = 4096;
-
-/// The longest text, in bytes.
-const LONGEST_TEXT: usize = 255;
 
 /// The front of a line, up to the first byte that may not stand there.
 #[derive(Drop)]
@@ -38,7 +34,7 @@ fn behind(line: &[u8], count: usize) -> &[u8]
 
 /// How many bytes a text holds, which goes on with these behind its opening quote.
 fn held(mut bytes: &[u8]) -> usize
-    requires { length bytes.now ≤ 16777216 }
+    requires { length bytes.now ≤ longest_script }
     ensures { result ≡ spec.held_from false 0 bytes.entry.now }
 {
     let mut n = 0;
@@ -62,7 +58,7 @@ fn held(mut bytes: &[u8]) -> usize
 /// Whether the text whose quote stands there is too long.
 #[tactic(auto, unfolding(crate::specs::Legible::is_long))]
 fn is_long(line: &[u8], from: u32) -> bool
-    requires { length line.now ≤ 16777216 }
+    requires { length line.now ≤ longest_script }
     ensures { result ≡ spec.is_long from line.now }
 {
     held(behind(line, from as usize + 1)) > LONGEST_TEXT
@@ -70,7 +66,7 @@ fn is_long(line: &[u8], from: u32) -> bool
 
 /// How many bytes stand before the first that fits no token.
 fn reach(line: &[u8], stop: Option<Stop>) -> usize
-    requires { length line.now ≤ 16777216 }
+    requires { length line.now ≤ longest_script }
     ensures { result ≡ spec.reach line.now stop }
 {
     match stop {
@@ -88,12 +84,12 @@ fn reach(line: &[u8], stop: Option<Stop>) -> usize
 
 fn capped(n: usize) -> u32
     ensures value { result ≡ spec.capped n }
-    ensures short { result ≤ 4096 }
+    ensures short { result ≤ longest_line }
 {
-    if n < LONGEST {
+    if n < LONGEST_LINE {
         n as u32
     } else {
-        LONGEST as u32
+        LONGEST_LINE as u32
     }
 }
 
@@ -130,15 +126,15 @@ fn with_text(
 /// The front of a line that can be read. `long` says that a byte stands behind the line which may not be there.
 #[tactic(auto, unfolding(crate::specs::Legible::legible))]
 pub fn legible_front(alloc: Global, line: &[u8], long: bool) -> Result<Legible, NoMemory>
-    requires { length line.now ≤ 16777216 }
+    requires { length line.now ≤ longest_script }
     ensures value { IfOk result (λ r. r ≡ spec.legible long line.now) }
     ensures ordered { IfOk result (λ r. IsLine r.tokens r.end) }
 {
-    let Scanned { tokens, stop } = scan(alloc, line, LONGEST as u32)?;
+    let Scanned { tokens, stop } = scan(alloc, line, LONGEST_LINE as u32)?;
     let end = capped(reach(line, stop));
     Ok(Legible {
         tokens: with_text(alloc, tokens, open_from(stop, end), end)?,
         end,
-        spoilt: long || line.len() > LONGEST || stop.is_some(),
+        spoilt: long || line.len() > LONGEST_LINE || stop.is_some(),
     })
 }

@@ -6,6 +6,7 @@ mod fault_line;
 mod header;
 mod laws;
 mod legible;
+mod limits;
 mod line;
 mod pieces;
 mod reading;
@@ -15,7 +16,7 @@ mod script;
 mod words;
 
 pub use fault_line::put_script_fault;
-pub use laws::bytes_are_read_by_the_grammar;
+pub use laws::{bytes_are_read_by_the_grammar, faults_are_read_by_the_grammar};
 pub use reading::read_script;
 pub use replies::put_reply_lines;
 pub use report::put_report;

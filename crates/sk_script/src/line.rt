@@ -1,12 +1,15 @@
 //! One line of a script.
 
 ghost use Rattle.std.specs.Prelude.{◌≡◌, ◌≤◌, length};
+ghost use Rattle.sk_rows.specs.Memory.{Gives};
+ghost use Rattle.sk_script.specs.Limits.{longest_line, longest_script};
 ghost use Rattle.sk_script.specs.Script as spec;
-ghost use Rattle.sk_script.specs.Lines.{Gives, IsLine};
+ghost use Rattle.sk_script.specs.Lines.{IsLine, wants};
 
 use crate::body::body;
 use crate::header::table_line;
 use crate::legible::{Legible, legible_front};
+use crate::limits::LONGEST_LINE;
 use crate::script::{Script, ScriptLine, TableLine};
 use sk_lex::{Keyword, Token, Word};
 use sk_parse::ParseFault;
@@ -28,19 +31,19 @@ fn is_passed_over(mut line: &[u8]) -> bool
 /// How many bytes from the front a script may hold, of those that a line may have.
 fn good_len(line: &[u8]) -> usize
     ensures value { result ≡ spec.good_len line.now }
-    ensures short { result ≤ 4096 }
+    ensures short { result ≤ longest_line }
 {
     let mut n = 0;
     while n < line.len() && 32 <= line[n] && line[n] <= 126 {
         n += 1;
     }
-    n.min(4096)
+    n.min(LONGEST_LINE)
 }
 
 /// The script, if nothing stands in the line which it passes over that may not be there.
 #[tactic(auto, unfolding(crate::specs::Script::passed))]
 fn passed(script: Script, line: &[u8], long: bool) -> Result<Script, ParseFault>
-    ensures { Gives result (spec.passed long script line.now) }
+    ensures { Gives wants result (spec.passed long script line.now) }
 {
     let good = good_len(line);
     if long || good < line.len() {
@@ -73,7 +76,7 @@ fn is_header(lines: &[ScriptLine], tokens: &[Token]) -> bool
 
 /// The fault behind the front of a line, if there is one.
 fn behind(front: &Legible) -> Result<(), ParseFault>
-    requires { front.now.end ≤ 4096 }
+    requires { front.now.end ≤ longest_line }
     ensures { result ≡ spec.behind front.now }
 {
     if front.spoilt {
@@ -93,7 +96,7 @@ fn with_table(
     front: &Legible,
 ) -> Result<Script, ParseFault>
     requires { IsLine front.now.tokens front.now.end }
-    ensures { Gives result (spec.with_table script number front.now) }
+    ensures { Gives wants result (spec.with_table script number front.now) }
 {
     let Script { mut tables, lines } = script;
     let table = table_line(alloc, tables.as_slice(), front.tokens.as_slice(), front.end)?;
@@ -118,7 +121,7 @@ fn with_body(
     front: &Legible,
 ) -> Result<Script, ParseFault>
     requires { IsLine front.now.tokens front.now.end }
-    ensures { Gives result (spec.with_body script number front.now) }
+    ensures { Gives wants result (spec.with_body script number front.now) }
 {
     let Script { tables, mut lines } = script;
     let what = body(alloc, front.tokens.as_slice(), front.end)?;
@@ -140,8 +143,8 @@ pub fn with_line(
     line: &[u8],
     long: bool,
 ) -> Result<Script, ParseFault>
-    requires { length line.now ≤ 16777216 }
-    ensures { Gives result (spec.with_line long script number line.now) }
+    requires { length line.now ≤ longest_script }
+    ensures { Gives wants result (spec.with_line long script number line.now) }
 {
     if is_passed_over(line) {
         return passed(script, line, long);

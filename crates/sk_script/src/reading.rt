@@ -3,17 +3,17 @@
 ghost use Rattle.std.specs.Prelude.{◌≡◌, ◌+◌, ◌≤◌, ◌<◌, [], ◌∷◌, length, map, IfSome, IfNone, IfOk, take};
 ghost use Rattle.std.specs.Option.{option_copied};
 ghost use Rattle.std.specs.List.{prefix_len};
+ghost use Rattle.sk_rows.specs.Memory.{Gives};
 ghost use Rattle.sk_script.specs.Faults.{IsAnswer};
+ghost use Rattle.sk_script.specs.Limits.{longest_script};
 ghost use Rattle.sk_script.specs.Script as spec;
 ghost use Rattle.sk_script.specs.Tables.{CanAdd};
 
+use crate::limits::LONGEST_SCRIPT;
 use crate::line::with_line;
 use crate::script::{Script, ScriptFault, ScriptLineList, TableLineList};
 use sk_parse::ParseFault;
 use std::alloc::Global;
-
-/// The longest script, in bytes.
-const LONGEST: usize = 16_777_216;
 
 /// How many bytes stand before the first line end.
 fn line_len(bytes: &[u8]) -> usize
@@ -81,8 +81,8 @@ fn with_last(
     line: &[u8],
     long: bool,
 ) -> Result<Script, ScriptFault>
-    requires { length line.now ≤ 16777216 }
-    ensures { spec.Gives result (spec.with_last long script number line.now) }
+    requires { length line.now ≤ longest_script }
+    ensures { Gives spec.wants result (spec.with_last long script number line.now) }
 {
     if line.is_empty() && !long {
         return Ok(script);
@@ -96,8 +96,8 @@ fn with_last(
 /// Reads lines up to the end of the bytes, where `long` says that there were more of them.
 #[tactic(auto, using(crate::proofs::Cuts::one_line))]
 fn read_lines(alloc: Global, bytes: &[u8], long: bool) -> Result<Script, ScriptFault>
-    requires { length bytes.now ≤ 16777216 }
-    ensures { spec.Gives result (spec.read_from long spec.nothing 1 (spec.pieces bytes.now)) }
+    requires { length bytes.now ≤ longest_script }
+    ensures { Gives spec.wants result (spec.read_from long spec.nothing 1 (spec.pieces bytes.now)) }
 {
     let mut rest = bytes;
     let mut script = Script {
@@ -131,10 +131,10 @@ fn front(bytes: &[u8], most: usize) -> &[u8]
 /// Reads the bytes up to the limit of scripts.
 #[tactic(auto, unfolding(crate::specs::Script::script_of))]
 fn read_front(alloc: Global, bytes: &[u8]) -> Result<Script, ScriptFault>
-    ensures { spec.Gives result (spec.script_of bytes.now) }
+    ensures { Gives spec.wants result (spec.script_of bytes.now) }
 {
-    let long = bytes.len() > LONGEST;
-    read_lines(alloc, front(bytes, LONGEST), long)
+    let long = bytes.len() > LONGEST_SCRIPT;
+    read_lines(alloc, front(bytes, LONGEST_SCRIPT), long)
 }
 
 /// The script that the bytes are, or its first fault: that of the first line with one, at its least place.
@@ -143,7 +143,7 @@ fn read_front(alloc: Global, bytes: &[u8]) -> Result<Script, ScriptFault>
 /// not ended, the end of a line where more was to come, and what passes the limits of a line or of the script.
 #[tactic(auto, using(crate::proofs::Takings::given_tables, crate::proofs::ScriptFaults::answered))]
 pub fn read_script(alloc: Global, bytes: &[u8]) -> Result<Script, ScriptFault>
-    ensures exact { spec.Gives result (spec.script_of bytes.now) }
+    ensures exact { Gives spec.wants result (spec.script_of bytes.now) }
 
     // The script by the rules of its grammar, or the first fault by them.
     ensures grammar { IsAnswer bytes.now result }

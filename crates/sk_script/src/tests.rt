@@ -151,23 +151,6 @@ fn scripts(rt: HostRuntime) {
 }
 
 #[test]
-fn many_tables(rt: HostRuntime) -> Result<(), Fail> {
-    let mut bytes = Vec::new(rt.alloc());
-    for n in 0..65 {
-        let name = [b't', b'a' + n / 26, b'a' + n % 26];
-        for b in b"TABLE "
-            .iter()
-            .chain(name.iter())
-            .chain(b" MEMORY id INT\n".iter())
-        {
-            bytes.push(*b)?;
-        }
-    }
-    assert!(rt; fault(&rt, bytes.as_slice()) == (65, 7));
-    Ok(())
-}
-
-#[test]
 fn places(rt: HostRuntime) -> Result<(), Fail> {
     let run = String::from_str(rt.alloc(), "run")?;
     let dir = String::from_str(rt.alloc(), "d")?;
