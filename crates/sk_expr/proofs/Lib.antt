@@ -1,4 +1,5 @@
 pub mod Checked
+pub mod Concerned
 pub mod Extensions
 pub mod Names
 pub mod Operations

@@ -1,4 +1,5 @@
 pub mod Changed
+pub mod Concerns
 pub mod Extended
 pub mod Placing
 pub mod Seen

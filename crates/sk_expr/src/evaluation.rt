@@ -41,9 +41,10 @@ fn first_over<'a>(
     }
 }
 
+/// The operations of a chain are made by a loop, whose list takes memory.
 #[cycle(value)]
 #[tactic(auto, using(sk_rows::proofs::Spines::below_pop, crate::proofs::Operations::value_joined, crate::proofs::Operations::operated_pop, crate::proofs::Operations::operated_fails))]
-fn seen_over<'a>(
+fn chain_over<'a>(
     alloc: Global,
     expr: &'a Expr,
     columns: &[Column],
@@ -59,6 +60,38 @@ fn seen_over<'a>(
         left = compute(operation.op, left, right)?;
     }
     Ok(left)
+}
+
+fn is_operation(expr: &Expr) -> bool {
+    matches!(expr, Expr::Two(_, _, _))
+}
+
+/// The value of an expression. One that is no chain takes no memory.
+#[cycle(value)]
+fn seen_over<'a>(
+    alloc: Global,
+    expr: &'a Expr,
+    columns: &[Column],
+    row: &'a [Value],
+) -> Result<Seen<'a>, ValueFault>
+    ensures { Gives wants_memory (result_seen result) (value_in columns.now row.now expr.now) }
+{
+    match expr {
+        Expr::Lit(value) => Ok(see(value)),
+        Expr::Col(name) => Ok(column_seen(name, columns, row)),
+        Expr::Not(a) => {
+            let x = seen_over(alloc, a.get(), columns, row)?;
+            Ok(Seen::Bool(!is_true(x)))
+        }
+        Expr::Two(op, a, b) => {
+            if is_operation(a.get()) {
+                return chain_over(alloc, expr, columns, row);
+            }
+            let left = seen_over(alloc, a.get(), columns, row)?;
+            let right = seen_over(alloc, b.get(), columns, row)?;
+            compute(*op, left, right)
+        }
+    }
 }
 
 /// The value of an expression over a row with these columns.

@@ -5,6 +5,7 @@
 mod answering;
 mod asking;
 mod changing;
+mod concerning;
 mod counting;
 mod database;
 mod evaluation;
@@ -23,9 +24,10 @@ mod typing;
 
 pub use answering::comes_to;
 pub use asking::{key_read, target_table};
+pub use concerning::concerns;
 pub use evaluation::{holds, value};
 pub use explaining::explain;
-pub use laws::typed_has_value;
+pub use laws::{only_rows_that_concern_count, typed_has_value};
 pub use refusing::refusal;
 pub use sk_rows::{TypeFault, ValueFault};
 pub use typing::type_check;

@@ -47,6 +47,7 @@ pub(crate) fn table_named<'a>(
 }
 
 /// What a statement comes to over a table, whose number is `number`.
+#[tactic(auto, using(sk_expr::proofs::Concerned::concerned))]
 pub(crate) fn answer(
     alloc: Global,
     table: &Table,
@@ -57,6 +58,6 @@ pub(crate) fn answer(
     ensures { IfOk result (λ a. a ≡ spec.comes_to table.now.columns number statement.now (rows_read (table_of (shown tables.now) number) (spec.key_read table.now.columns statement.now))) }
 {
     let key = key_read(alloc, table, statement)?;
-    let rows = read(alloc, tables, number, key.as_ref())?;
+    let rows = read(alloc, table, statement, tables, number, key.as_ref())?;
     comes_to(alloc, table, number, statement, rows)
 }

@@ -1,6 +1,6 @@
 //! Tables as ordered maps.
 
-ghost use Rattle.std.specs.Prelude.{◌≡◌, ◌∷◌, ◌++◌, [], not, IfOk, OnOk};
+ghost use Rattle.std.specs.Prelude.{◌≡◌, ◌∷◌, ◌++◌, [], not, IfOk, None, OnOk, Some};
 ghost use Rattle.std.specs.Option.{option_copied};
 ghost use Rattle.std.specs.Ordering.{eq_by_cmp};
 ghost use Rattle.std.specs.FinMap.{find, put};
@@ -8,10 +8,12 @@ ghost use Rattle.std.specs.FinMap.Entries.{where_key};
 ghost use Rattle.sk_rows.specs.Values.{value_cmp};
 ghost use Rattle.sk_model.specs.Database as spec;
 ghost use Rattle.sk_model.specs.Reads.{rows_read};
+ghost use Rattle.sk_expr.specs.Concerns.{rows_concerned};
 ghost use Rattle.sk_plain.specs.Maps.{shown};
 
+use sk_expr::concerns;
 use sk_model::KeyedRows;
-use sk_rows::{Copies, NoMemory, Row, Value};
+use sk_rows::{Copies, NoMemory, Row, Statement, Table, Value};
 use std::alloc::Global;
 use std::collections::BTreeMap;
 
@@ -85,12 +87,20 @@ pub(crate) fn set_row(
     }
 }
 
-fn all_rows(alloc: Global, rows: &RowMap) -> Result<KeyedRows, NoMemory>
-    ensures { IfOk result (λ list. list ≡ rows.now.entries) }
+/// The rows that can matter to a statement that reads all.
+fn all_concerned(
+    alloc: Global,
+    table: &Table,
+    statement: &Statement,
+    rows: &RowMap,
+) -> Result<KeyedRows, NoMemory>
+    ensures { IfOk result (λ list. list ≡ rows_concerned table.now.columns statement.now rows.now.entries None) }
 {
     let mut out = KeyedRows::new(alloc);
     for (key, row) in rows {
-        out.push((key.copy(alloc)?, row.copy(alloc)?))?;
+        if concerns(alloc, table, statement, row)? {
+            out.push((key.copy(alloc)?, row.copy(alloc)?))?;
+        }
     }
     Ok(out)
 }
@@ -108,18 +118,21 @@ fn one_row(alloc: Global, rows: &RowMap, key: &Value) -> Result<KeyedRows, NoMem
     }
 }
 
-/// Copies of the rows that are read of a table: that of the one key, or all.
+/// Copies of the rows that are read of a table, whose number is `number`: that of the one key, or those of all that can
+/// matter to the statement.
 pub(crate) fn read(
     alloc: Global,
+    table: &Table,
+    statement: &Statement,
     tables: &[RowMap],
-    table: u16,
+    number: u16,
     key: Option<&Value>,
 ) -> Result<KeyedRows, NoMemory>
-    ensures { IfOk result (λ rows. rows ≡ rows_read (spec.table_of (shown tables.now) table) (option_copied key.entry)) }
+    ensures { IfOk result (λ rows. rows ≡ rows_concerned table.now.columns statement.now (spec.table_of (shown tables.now) number) (option_copied key.entry)) }
 {
-    match (tables.get(table as usize), key) {
+    match (tables.get(number as usize), key) {
         (None, _) => Ok(KeyedRows::new(alloc)),
-        (Some(rows), None) => all_rows(alloc, rows),
+        (Some(rows), None) => all_concerned(alloc, table, statement, rows),
         (Some(rows), Some(key)) => one_row(alloc, rows, key),
     }
 }

@@ -1,6 +1,0 @@
-use Rattle.std.proofs.Common.{◌≡◌, map}
-use Rattle.sk_plain.proofs.maps.all_rows.Given as goal
-
--- The rows so far are copied.
-abbrev pub invariant-loop-key : goal.invariant-loop-key
-invariant-loop-key l = l.out ≡ map (λ e. (e.0.now, e.1.now)) l.yielded
