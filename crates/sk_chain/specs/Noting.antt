@@ -22,6 +22,16 @@ pub record Notes (stands : EngineTable → List Entry → Type 0) (w : Written) 
   pub sorted : T (is_sorted label_cmp e.openings)
   pub goes : length w.entries < most_entries → goes_behind (horizon_of e) (last_in None w.entries) ≡ true
 
+-- the engine below, the entries of the journal, and what both stand for
+abbrev pub engine_of : {G : Type 0} → Noted G → G
+engine_of x = x.engine
+
+abbrev pub journal_of : {G : Type 0} → Noted G → List Entry
+journal_of x = x.journal.entries
+
+abbrev pub noted_stands : {G : Type 0} → (G → EngineTable → List Entry → Type 0) → Noted G → EngineTable → List Entry → Type 0
+noted_stands stands x e js = Notes (stands x.engine) x.journal e js
+
 -- a call in room that was taken for it; where memory was wanted, the room is given back
 abbrev pub noted : Written → EngineCall → Option EngineReply → Written
 noted w call None = record { entries = w.entries; room = w.room - 1 }
@@ -34,6 +44,6 @@ pub record IsJournal (e : EngineTable) (made entries : List Entry) : Type 0 wher
   pub allowed : Allowed e entries
 
 abbrev pub JournalIsLegal : {G : Type 0} → Bool → (G → ℕ) → (G → EngineTable → List Entry → Type 0) → Type 0
-JournalIsLegal {G} told faults stands = told ≡ true → (s : Noted G) (e : EngineTable) (ms : List (Made (Noted G))) → Notes (stands s.engine) s.journal e []
-    → Makes told (λ x. faults x.engine) (λ x e js. Notes (stands x.engine) x.journal e js) s e ms → length (entries_by ms) ≤ most_entries
-    → IsJournal e (entries_by ms) (engine_behind s ms).journal.entries
+JournalIsLegal {G} told faults stands = told ≡ true → (s : Noted G) (e : EngineTable) (ms : List (Made (Noted G))) → noted_stands stands s e []
+    → Makes told (λ x. faults (engine_of x)) (noted_stands stands) s e ms → length (entries_by ms) ≤ most_entries
+    → IsJournal e (entries_by ms) (journal_of (engine_behind s ms))

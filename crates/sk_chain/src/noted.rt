@@ -4,7 +4,7 @@ ghost use Rattle.std.specs.Prelude.{◌≡◌, ◌<◌, [], false, List};
 ghost use Rattle.sk_model.specs.declared.call.Entry.{Entry};
 ghost use Rattle.sk_model.specs.Engine.{EngineTable};
 ghost use Rattle.sk_model.specs.Journal.{is_horizon};
-ghost use Rattle.sk_chain.specs.Noting.{Notes, noted};
+ghost use Rattle.sk_chain.specs.Noting.{engine_of, journal_of, noted_stands, noted};
 
 use crate::engine::Engine;
 use crate::replies::{commits, done, found, number, refused, rows};
@@ -28,7 +28,9 @@ pub struct Noted<G> {
 impl<G: Engine + Drop> Noted<G> {
     /// The engine, with no entry yet. No transaction has opened it.
     pub fn new(alloc: Global, engine: G) -> Noted<G>
-        ensures { (e : EngineTable) (js : List Entry) → G.stands engine e js → e.openings ≡ [] → Notes (G.stands result.engine) result.journal e [] }
+        ensures engine { engine_of result ≡ engine }
+        ensures journal { journal_of result ≡ [] }
+        ensures stands { (e : EngineTable) (js : List Entry) → G.stands engine e js → e.openings ≡ [] → noted_stands G.stands result e [] }
     {
         Noted {
             engine,
@@ -39,8 +41,8 @@ impl<G: Engine + Drop> Noted<G> {
 
     /// The engine and its journal.
     pub fn into_parts(self) -> (G, Journal)
-        ensures engine { result.0 ≡ self.engine }
-        ensures journal { result.1 ≡ self.journal.entries }
+        ensures engine { result.0 ≡ engine_of self }
+        ensures journal { result.1 ≡ journal_of self }
     {
         let Noted {
             engine,
@@ -68,9 +70,9 @@ impl<G: Engine + Drop> Engine for Noted<G> {
 
     ghost told = { G.told };
 
-    ghost faults = { λ s. G.faults s.engine };
+    ghost faults = { λ s. G.faults (engine_of s) };
 
-    ghost stands = { λ s e js. Notes (G.stands s.engine) s.journal e js };
+    ghost stands = { noted_stands G.stands };
 
     fn open(&mut self, tx: Label, snapshot: u32) -> Result<(), EngineFault> {
         self.journal.take_room(2)?;
