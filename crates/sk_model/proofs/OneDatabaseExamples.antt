@@ -2,9 +2,8 @@
 -- list has the second commit first. The run is of one database. It is not where a commit is left out of the list, has a number
 -- that its record did not draw, or where a record's place is not that of its snapshots.
 use Rattle.std.specs.Prelude.{◌≡◌, ℕ, List, [], ◌∷◌, Option, Some, None, true, false, pos}
-use Rattle.std.proofs.Common.{refl, ap, arith}
-use Rattle.std.specs.List.{sum_by, IsDistinct}
-use Rattle.std.specs.List.Sorted.{IsPermutation}
+use Rattle.std.proofs.Common.{refl, arith}
+use Rattle.std.specs.List.{IsDistinct}
 use Rattle.std.proofs.lemmas.List.Sorted.{length_permutation, sum_by-IsPermutation}
 use Rattle.sk_rows.specs.declared.value.Value.{Value}
 use Rattle.sk_rows.specs.declared.value.Value.TheVariants as value

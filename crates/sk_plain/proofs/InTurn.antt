@@ -1,6 +1,6 @@
 -- The labels of the list stay unlike, and the numbers of an engine still rise, as commits with later ones are added.
 use Rattle.std.specs.Prelude.{◌≡◌, ℕ, ◌+◌, ◌<◌, ◌≤◌, Bool, true, false, cond, List, [], ◌∷◌, ◌++◌, map, filter, Option, Some, None, is_some}
-use Rattle.std.proofs.Common.{refl, sym, ap, subst, ◌∙◌, arith}
+use Rattle.std.proofs.Common.{refl, sym, subst, ◌∙◌, arith}
 use Rattle.std.specs.List.{AllByRecursion, IsDistinct}
 use Rattle.sk_model.specs.declared.label.Label.{Label}
 use Rattle.sk_model.specs.declared.commit.Commit.{Commit}

@@ -1,5 +1,5 @@
 -- What the session is answered, line by line, is what its records say.
-use Rattle.std.specs.Prelude.{◌≡◌, ℕ, ◌+◌, Bool, true, false, cond, if◌then◌else◌, not, ◌&&◌, ◌||◌, ◌==◌, List, [], ◌∷◌, ◌++◌, length, map, filter, Option, Some, None, Result, Ok, Err}
+use Rattle.std.specs.Prelude.{◌≡◌, ℕ, ◌+◌, Bool, true, false, cond, if◌then◌else◌, not, ◌&&◌, ◌||◌, ◌==◌, List, [], ◌∷◌, ◌++◌, length, map, Option, Some, None, Result, Ok, Err}
 use Rattle.std.proofs.Common.{refl, sym, ap, subst, ◌∙◌, arith, append_assoc}
 use Rattle.std.specs.List.{flat_map, list_all, AllByRecursion}
 use Rattle.std.proofs.lemmas.Bool.{cond_both}
@@ -30,7 +30,7 @@ use Rattle.sk_model.specs.Replies.{Answer, has_room, inserted, shown, updated, d
 use Rattle.sk_model.specs.Sorts.{have_sorts, is_condition, sets_sorts}
 use Rattle.sk_model.specs.Spoken.{Seat, Outside, Inside, is_for_words, uses_label, seat_behind, labelled, lines_of, records_of, Counts, Names, Spoken, spoke}
 use Rattle.sk_model.proofs.Lists.{each_append}
-use Rattle.sk_plain.specs.Standing.{Live, Standing, nothing_yet, is_stored, next_label, kind_of, started, may_use, selected, heard, answered, with_live, committed, committing, given_up, record_of}
+use Rattle.sk_plain.specs.Standing.{Live, Standing, nothing_yet, is_stored, started, may_use, selected, heard, answered, with_live, committed, committing, given_up, record_of}
 use Rattle.sk_plain.specs.Session.{Turn, answer_at, inside_at, inside, is_refused, engine_kind, outside_at, outside, named, begins, says_outside, says_inside, says_by, says, behind, replies, ended_by, ended, end_of, played_of}
 
 abbrev said_with : Statement → Reply → Said

@@ -316,50 +316,60 @@ fn repeated(alloc: Global, piece: &str, times: u32) -> Result<String, AllocError
     Ok(text)
 }
 
+fn numbered(alloc: Global, front: &str, back: &str) -> Result<String, AllocError> {
+    let mut text = String::new(alloc);
+    for id in 1..=100u32 {
+        write!(text, "{front}{id}{back}")?;
+    }
+    Ok(text)
+}
+
 /// A hundred rows, 64 NOTs, a line of 4,096 bytes, texts of 255 bytes and a row with four of them, which takes 1,030 bytes in a file.
 fn ordinary_script(alloc: Global) -> Result<String, AllocError> {
-    let mut script = joined(
+    let long = repeated(alloc, "k", 255)?;
+    joined(
         alloc,
         &[
-            "TABLE a MEMORY id INT, v INT\n",
-            "TABLE w STORAGE k TEXT, b TEXT, c TEXT, d TEXT, e TEXT\n",
+            "TABLE a MEMORY id INT, v INT\nTABLE w STORAGE k TEXT, b TEXT, c TEXT, d TEXT, e TEXT\n",
             "1: BEGIN\n",
+            &numbered(alloc, "1: INSERT INTO a VALUES (", ", 7)\n")?,
+            "1: INSERT INTO w VALUES ('",
+            &long,
+            "', '', '', '', '')\n1: COMMIT\n1: INSERT INTO w VALUES ('', '",
+            &long,
+            "', '",
+            &long,
+            "', '",
+            &long,
+            "', '",
+            &long,
+            "')\n1: UPDATE a SET v = v + 1\n1: SELECT v, id FROM a WHERE ",
+            &repeated(alloc, "NOT ", 64)?,
+            "id > 99\n1: SELECT v FROM a WHERE id = 50",
+            &repeated(alloc, " + 0", 1016)?,
+            "\n1: SELECT k FROM w\n1: SELECT * FROM a\n",
         ],
-    )?;
-    for id in 1..=100u32 {
-        write!(script, "1: INSERT INTO a VALUES ({id}, {id})\n")?;
-    }
-    let long = repeated(alloc, "k", 255)?;
-    write!(script, "1: INSERT INTO w VALUES ('{long}', '', '', '', '')\n1: COMMIT\n")?;
-    write!(script, "1: INSERT INTO w VALUES ('', '{long}', '{long}', '{long}', '{long}')\n")?;
-    script.push_str("1: UPDATE a SET v = v + 1\n")?;
-    let nots = repeated(alloc, "NOT ", 64)?;
-    write!(script, "1: SELECT v, id FROM a WHERE {nots}id > 99\n")?;
-    let zeros = repeated(alloc, " + 0", 1016)?;
-    write!(script, "1: SELECT v FROM a WHERE id = 50{zeros}\n")?;
-    script.push_str("1: SELECT k FROM w\n1: SELECT * FROM a\n")?;
-    Ok(script)
+    )
 }
 
 fn ordinary_text(alloc: Global) -> Result<String, AllocError> {
-    let mut text = joined(alloc, &["1: OK 1.1\n"])?;
-    for _ in 0..101u32 {
-        text.push_str("1: COUNT 1\n")?;
-    }
-    text.push_str("1: COMMITTED\n1: ERR size\n1: COUNT 100\n")?;
-    text.push_str("1: ROW 101, 100\n1: ROWS 1\n1: ROW 51\n1: ROWS 1\n")?;
-    let long = repeated(alloc, "k", 255)?;
-    write!(text, "1: ROW '{long}'\n1: ROWS 1\n")?;
-    for id in 1..=100u32 {
-        let v = id + 1;
-        write!(text, "1: ROW {id}, {v}\n")?;
-    }
-    text.push_str("1: ROWS 100\nORDER 1.1 1 1\nORDER 1.3 2 -\n")?;
-    text.push_str("TX 1.1 cross 0 0 0 committed 1 1 -\nTX 1.2 storage - 1 1 rolledback - - -\n")?;
-    text.push_str("TX 1.3 memory 1 - 1 committed 2 - -\nTX 1.4 memory 2 - 2 committed - - -\n")?;
-    text.push_str("TX 1.5 memory 2 - 2 committed - - -\nTX 1.6 storage - 1 1 committed - - -\n")?;
-    text.push_str("TX 1.7 memory 2 - 2 committed - - -\n")?;
-    Ok(text)
+    joined(
+        alloc,
+        &[
+            "1: OK 1.1\n",
+            &repeated(alloc, "1: COUNT 1\n", 101)?,
+            "1: COMMITTED\n1: ERR size\n1: COUNT 100\n",
+            "1: ROW 8, 100\n1: ROWS 1\n1: ROW 8\n1: ROWS 1\n1: ROW '",
+            &repeated(alloc, "k", 255)?,
+            "'\n1: ROWS 1\n",
+            &numbered(alloc, "1: ROW ", ", 8\n")?,
+            "1: ROWS 100\nORDER 1.1 1 1\nORDER 1.3 2 -\n",
+            "TX 1.1 cross 0 0 0 committed 1 1 -\nTX 1.2 storage - 1 1 rolledback - - -\n",
+            "TX 1.3 memory 1 - 1 committed 2 - -\nTX 1.4 memory 2 - 2 committed - - -\n",
+            "TX 1.5 memory 2 - 2 committed - - -\nTX 1.6 storage - 1 1 committed - - -\n",
+            "TX 1.7 memory 2 - 2 committed - - -\n",
+        ],
+    )
 }
 
 // What an ordinary script asks for is there, so that its run does not end for want of memory.

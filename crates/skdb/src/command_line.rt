@@ -4,6 +4,7 @@ use std::env::{self, Env, FillError};
 use std::io::{self, ErrorKind};
 
 /// The words behind the program's name. That name is not read, so what bytes it has makes no difference.
+#[derive(Clone, Copy)]
 struct BehindName<'a> {
     whole: &'a HostRuntime,
 }
