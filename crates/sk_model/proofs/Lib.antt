@@ -18,3 +18,4 @@ pub mod Runs
 pub mod Openings
 pub mod Parts
 mod Rows
+mod JournalExamples
