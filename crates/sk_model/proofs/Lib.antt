@@ -21,3 +21,4 @@ pub mod Runs
 pub mod Openings
 pub mod Parts
 mod Rows
+mod JournalExamples

@@ -32,6 +32,10 @@ entries_in parts run = flat_map part_entries parts ++ run_entries run
 abbrev pub most_entries : ℕ
 most_entries = 2 ^ 64 - 1
 
+-- how many of them are not Horizons at most, those counted for which there is room
+abbrev pub most_others : ℕ
+most_others = 2 ^ 62
+
 abbrev pub answers : ℕ → EngineReply → Bool
 answers n (Number m) = m == n
 answers n _ = false
@@ -61,4 +65,5 @@ pub record Written : Type 0 where
 pub record IsWritten (parts : List JournalPart) (last : HorizonRun) (len room capacity : ℕ) : Type 0 where
   pub counted : len ≡ length (entries_in parts last)
   pub held : length parts + room ≤ capacity
+  pub few : length parts + room ≤ most_others
   pub others : AllByRecursion (λ (p : JournalPart). is_horizon p.entry.call ≡ false) parts

@@ -4,7 +4,7 @@
 //! entering one takes no memory, and an engine that is asked again and again costs nothing.
 
 ghost use Rattle.std.specs.Prelude.{◌≡◌, ◌<◌, ◌≤◌, ◌+◌, ◌-◌, [], false, length, OnOk, OnErr};
-ghost use Rattle.sk_model.specs.Journal.{entries_in, entered, with_horizon, takes_horizon, is_horizon};
+ghost use Rattle.sk_model.specs.Journal.{entries_in, most_others, entered, with_horizon, takes_horizon, is_horizon};
 
 use crate::call::Entry;
 use sk_rows::{Copies, List, NoMemory};
@@ -39,15 +39,15 @@ pub struct Journal {
 }
 
 impl Model for Journal {
-    ghost use Rattle.std.specs.Prelude.{◌≡◌, List as ItemList, length};
+    ghost use Rattle.std.specs.Prelude.{◌≡◌, ◌≤◌, List as ItemList, length};
     ghost use Rattle.sk_model.specs.declared.call.Entry.{Entry as AnyEntry};
-    ghost use Rattle.sk_model.specs.Journal.{entries_in};
+    ghost use Rattle.sk_model.specs.Journal.{entries_in, most_others};
 
     ghost Value = { ItemList AnyEntry };
 
     ghost view = { λ it. entries_in it.parts it.last };
 
-    ghost invariant = { λ it. it.len ≡ length (entries_in it.parts it.last) };
+    ghost invariant = { λ it. (it.len ≡ length (entries_in it.parts it.last)) × (length it.parts ≤ most_others) };
 }
 
 impl Journal {
@@ -71,7 +71,8 @@ impl Journal {
 
     /// The entries that are not Horizons, each with the Horizons right before it, and the Horizons behind them all.
     pub fn as_parts(&self) -> (&[JournalPart], HorizonRun)
-        ensures { self.now ≡ entries_in result.0.now result.1 }
+        ensures entries { self.now ≡ entries_in result.0.now result.1 }
+        ensures others { length result.0.now ≤ most_others }
     {
         (self.parts.as_slice(), self.last)
     }
@@ -145,10 +146,7 @@ impl JournalWriter {
         let Some(room) = self.room.checked_add(entries) else {
             return Err(NoMemory);
         };
-        if self.len == u64::MAX
-            || self.parts.len() > MOST_OTHERS
-            || room > MOST_OTHERS - self.parts.len()
-        {
+        if self.len == u64::MAX || room > MOST_OTHERS - self.parts.len() {
             return Err(NoMemory);
         }
         self.parts.reserve(room)?;
