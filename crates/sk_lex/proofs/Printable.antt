@@ -1,17 +1,14 @@
 -- A line that is tokens to its end holds no byte but 32 to 126.
-use Rattle.std.proofs.Common.{◌≡◌, ◌==◌, ℕ, zero, suc, ◌+◌, ◌-◌, ◌≤◌, Bool, true, false, cond, ◌&&◌, ◌||◌, List, [], ◌∷◌, ◌++◌, length, take, Option, Some, None, refl, sym, ap, subst, ◌∙◌, arith, ◌⊎◌, inl, inr}
-use Rattle.std.specs.Prelude.{nat_le, Result, Ok, Err}
+use Rattle.std.proofs.Common.{◌≡◌, ◌==◌, ℕ, zero, suc, ◌+◌, ◌-◌, ◌≤◌, Bool, true, false, cond, ◌&&◌, ◌||◌, List, [], ◌∷◌, ◌++◌, take, Option, Some, None, refl, sym, ap, subst, ◌∙◌, arith, ◌⊎◌, inl, inr}
+use Rattle.std.specs.Prelude.{nat_le, Ok, Err}
 use Rattle.std.specs.List.{flat_map, list_all, prefix_len}
-use Rattle.std.proofs.lemmas.Bool.{and_parts, le-leb, leb-true}
+use Rattle.std.proofs.lemmas.Bool.{and_parts, le-leb, leb-true, or_cases}
 use Rattle.std.proofs.lemmas.Bool.Decides.{nat_tests}
 use Rattle.std.proofs.lemmas.List.Folds.{list_all-append}
 use Rattle.sk_rows.specs.Text.{are_printable, is_printable}
-use Rattle.sk_lex.specs.declared.front.Class.{Class}
 use Rattle.sk_lex.specs.declared.front.Class.TheVariants as class
 use Rattle.sk_lex.specs.declared.front.Misfit.TheVariants as misfit
-use Rattle.sk_lex.specs.declared.scanning.Stop.{Stop}
 use Rattle.sk_lex.specs.declared.scanning.Stop.TheVariants as stop
-use Rattle.sk_lex.specs.declared.token.LexFault.{LexFault}
 use Rattle.sk_lex.specs.declared.token.Token.{Token}
 use Rattle.sk_lex.specs.declared.token.Word.{Word}
 use Rattle.sk_lex.specs.declared.token.Word.TheVariants as word
@@ -24,10 +21,6 @@ abbrev pub ArePrintable : Text → Type 0
 ArePrintable z = list_all is_printable z ≡ true
 
 -- ---- bytes of a class
-
-or_cases : (a b : Bool) → (a || b) ≡ true → (a ≡ true) ⊎ (b ≡ true)
-or_cases true b is = inl refl
-or_cases false b is = inr is
 
 between : (lo hi b : ℕ) → 32 ≤ lo → hi ≤ 126 → (nat_le lo b && nat_le b hi) ≡ true → is_printable b ≡ true
 between lo hi b low high is =

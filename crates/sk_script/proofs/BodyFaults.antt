@@ -1,5 +1,5 @@
 -- Where the words of a session's line are not read, its tokens are at fault there.
-use Rattle.std.proofs.Common.{◌≡◌, ◌==◌, ℕ, ◌+◌, Bool, true, false, cond, List, [], ◌∷◌, ◌++◌, Option, Some, None, refl, sym, ap, subst, ◌∙◌, ◌⊎◌, inl, inr}
+use Rattle.std.proofs.Common.{◌≡◌, ℕ, ◌+◌, Bool, true, false, cond, List, [], ◌∷◌, ◌++◌, Option, Some, None, refl, sym, ap, subst, ◌∙◌, ◌⊎◌, inl, inr}
 use Rattle.std.specs.Prelude.{Result, Ok, Err}
 use Rattle.std.specs.List.{list_all}
 use Rattle.sk_lex.specs.declared.token.Token.{Token}
@@ -8,10 +8,9 @@ use Rattle.sk_lex.specs.declared.token.Word.TheVariants as word
 use Rattle.sk_rows.specs.declared.statement.Statement.{Statement}
 use Rattle.sk_parse.specs.declared.fault.ParseFault.{ParseFault}
 use Rattle.sk_parse.specs.declared.fault.ParseFault.TheVariants as parse
-use Rattle.sk_parse.specs.Places.{IsFirstFault, words}
+use Rattle.sk_parse.specs.Places.{IsFirstFault}
 use Rattle.sk_parse.specs.Statements.{statement}
 use Rattle.sk_parse.proofs.Answered.{answered}
-use Rattle.sk_script.specs.declared.script.Line.{Line}
 use Rattle.sk_script.specs.Body.{alone, behind_session, body, by_session, closed, goes_on, is_mark, misfit, said, says, session_of}
 use Rattle.sk_script.specs.Faults.{BodyFault}
 use Rattle.sk_script.proofs.BodyRules.{IsClosed, first_mark, is_semicolon, mark_word, said_closed, said_plain}

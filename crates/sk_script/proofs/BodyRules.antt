@@ -1,9 +1,9 @@
 -- The words of a session's line: they are read as it exactly where the rules make it of them.
-use Rattle.std.proofs.Common.{◌≡◌, ◌==◌, ℕ, zero, suc, ◌+◌, Bool, true, false, cond, not, ◌&&◌, List, [], ◌∷◌, ◌++◌, length, map, take, drop, Option, Some, None, refl, sym, ap, subst, ◌∙◌, arith, ◌⊎◌, inl, inr}
+use Rattle.std.proofs.Common.{◌≡◌, ◌==◌, ℕ, Bool, true, false, cond, not, ◌&&◌, List, [], ◌∷◌, ◌++◌, length, take, drop, Option, Some, None, refl, sym, ap, subst, ◌∙◌, arith, ◌⊎◌, inl, inr}
 use Rattle.std.specs.Prelude.{Result, Ok, Err}
 use Rattle.std.specs.List.{list_all, prefix_len}
-use Rattle.std.proofs.Math.Seq.{drop-append_seam, take-append_seam}
-use Rattle.std.proofs.lemmas.Bool.{and_parts, cases_Bool}
+use Rattle.std.proofs.Math.Seq.{drop-append_seam, drop-length, take-append_seam, take-length}
+use Rattle.std.proofs.lemmas.Bool.{and_parts}
 use Rattle.std.proofs.lemmas.Bool.Decides.{nat_tests}
 use Rattle.std.proofs.lemmas.List.{map-append}
 use Rattle.sk_lex.specs.declared.token.Token.{Token}
@@ -38,20 +38,12 @@ prefix_before (t ∷ us) mark rest all ends =
     let more = prefix_before us mark rest parts.1 ends in
     rw parts.0 (omega arith)
 
-take_all : (ts : List Token) → take (length ts) ts ≡ ts
-take_all [] = refl
-take_all (t ∷ ts) = ap (λ l. t ∷ l) (take_all ts)
-
-drop_all : (ts : List Token) → drop (length ts) ts ≡ []
-drop_all [] = refl
-drop_all (t ∷ ts) = drop_all ts
-
 pub said_plain : (ts : List Token) (end : ℕ) → list_all goes_on ts ≡ true → said ts end ≡ statement ts end
 unfolding said
 said_plain ts end all =
     ap (λ n. said_by (take n ts) end (drop n ts)) (prefix_all ts all)
-    ∙ ap (said_by (take (length ts) ts) end) (drop_all ts)
-    ∙ ap (λ us. statement us end) (take_all ts)
+    ∙ ap (said_by (take (length ts) ts) end) (drop-length ts)
+    ∙ ap (λ us. statement us end) (take-length ts)
 
 pub said_closed : (us : List Token) (mark : Token) (rest : List Token) (end : ℕ) → list_all goes_on us ≡ true → goes_on mark ≡ false → said (us ++ mark ∷ rest) end ≡ closed us mark.from rest
 unfolding said

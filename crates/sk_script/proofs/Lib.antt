@@ -1,19 +1,24 @@
-pub mod BodyFaults
-pub mod BodyRules
-pub mod Columns
+-- pieces and lines, tokens of a line one behind the other, a recursion beside a loop
 pub mod Cuts
-pub mod FaultsRead
-pub mod FaultsStand
-pub mod LineFaults
-pub mod LineRules
-pub mod NewTables
-pub mod NoSemicolon
-pub mod Parts
 pub mod Rising
-pub mod ScriptFaults
-pub mod ScriptRules
-pub mod TableFails
-pub mod TableFaults
-pub mod TableRules
-pub mod Takings
 pub mod Turns
+-- the tables of a script are such as a catalog takes
+pub mod Parts
+pub mod Columns
+pub mod NewTables
+pub mod Takings
+-- what the rules make of words, of a line and of bytes is what is read, both ways
+pub mod TableRules
+pub mod NoSemicolon
+pub mod BodyRules
+pub mod LineRules
+pub mod ScriptRules
+-- the fault that is answered is the first by the rules
+pub mod TableFaults
+pub mod BodyFaults
+pub mod LineFaults
+pub mod ScriptFaults
+-- the first fault by the rules is answered
+pub mod TableFails
+pub mod BodyFails
+pub mod ScriptFails

@@ -1,8 +1,8 @@
 -- Where a line is not read, it is at fault there.
-use Rattle.std.proofs.Common.{◌≡◌, ◌==◌, ℕ, suc, ◌+◌, ◌-◌, ◌<◌, Bool, true, false, cond, ◌||◌, List, [], ◌∷◌, ◌++◌, length, length-append, drop, refl, sym, ap, subst, ◌∙◌, arith, ◌⊎◌, inl, inr}
+use Rattle.std.proofs.Common.{◌≡◌, ℕ, ◌+◌, ◌-◌, ◌<◌, Bool, true, false, cond, ◌||◌, List, [], ◌∷◌, ◌++◌, length, length-append, drop, refl, sym, ap, subst, ◌∙◌, arith, ◌⊎◌, inl, inr}
 use Rattle.std.specs.Prelude.{nat_lt, Result, Ok, Err}
 use Rattle.std.proofs.Math.Seq.{drop-append_seam}
-use Rattle.std.proofs.lemmas.Bool.{ltb-true}
+use Rattle.std.proofs.lemmas.Bool.{ltb-true, or_cases}
 use Rattle.sk_lex.specs.declared.token.Token.{Token}
 use Rattle.sk_lex.specs.Front.{Text}
 use Rattle.sk_rows.specs.declared.table.Table.{Table}
@@ -25,11 +25,7 @@ use Rattle.sk_script.proofs.BodyFaults.{FailsAt, body_fault, place_or}
 use Rattle.sk_script.proofs.BodyRules.{body_words}
 use Rattle.sk_script.proofs.LineRules.{header_words, table_of}
 use Rattle.sk_script.proofs.NewTables.{line_taken}
-use Rattle.sk_script.proofs.TableFaults.{table_fault}
-
-length_words : (ts : List Token) → length (words ts) ≡ length ts
-length_words [] = refl
-length_words (t ∷ ts) = ap suc (length_words ts)
+use Rattle.sk_script.proofs.TableFaults.{length_words, table_fault}
 
 pub place_is : (end : ℕ) (us vs ts : List Token) → ts ≡ us ++ vs → place ts end (length (words vs)) ≡ place_of end vs
 unfolding place
@@ -63,10 +59,6 @@ behind_err front at x is = by front.spoilt refl is
     by : (b : Bool) → front.spoilt ≡ b → FailsAt (and_then (cond b (Err (parse.Unexpected (front.end + 1))) (Ok (tt {0}))) (λ _. Ok x)) at → (b ≡ true) × (front.end + 1 ≡ at)
     by true spoilt e = (refl, ap (place_or 0) e)
     by false spoilt e = absurd cc
-
-or_cases : (a b : Bool) → (a || b) ≡ true → (a ≡ true) ⊎ (b ≡ true)
-or_cases true b is = inl refl
-or_cases false b is = inr is
 
 passed_fault : (script : Script) (long : Bool) (line : Text) (at : ℕ) → is_passed_over line ≡ true → FailsAt (passed long script line) at → LineFault script long line at
 unfolding passed

@@ -1,10 +1,9 @@
 -- One line: it is read exactly where the rules make something of it.
-use Rattle.std.proofs.Common.{◌≡◌, ◌==◌, ℕ, zero, suc, ◌+◌, ◌≤◌, Bool, true, false, cond, not, ◌&&◌, ◌||◌, List, [], ◌∷◌, ◌++◌, length, map, Option, Some, None, refl, sym, ap, subst, ◌∙◌, arith}
+use Rattle.std.proofs.Common.{◌≡◌, ◌==◌, ℕ, ◌+◌, ◌≤◌, Bool, true, false, cond, ◌||◌, List, [], ◌∷◌, length, map, Option, Some, None, refl, sym, ap, subst, ◌∙◌, arith}
 use Rattle.std.specs.Prelude.{nat_lt, is_some, Result, Ok, Err}
 use Rattle.std.specs.List.{list_all, prefix_len}
-use Rattle.std.proofs.lemmas.Bool.{and_parts, le-ltb, lt-ltb, ltb-false, ltb-true, or_parts}
+use Rattle.std.proofs.lemmas.Bool.{and_parts, le-ltb, ltb-false, ltb-true, or_parts}
 use Rattle.std.proofs.lemmas.Bool.Decides.{nat_tests}
-use Rattle.sk_lex.specs.declared.scanning.Stop.{Stop}
 use Rattle.sk_lex.specs.declared.scanning.Stop.TheVariants as stop
 use Rattle.sk_lex.specs.declared.token.Keyword.TheVariants as key
 use Rattle.sk_lex.specs.declared.token.LexFault.{LexFault}
@@ -28,7 +27,7 @@ use Rattle.sk_script.specs.declared.script.Script.{Script}
 use Rattle.sk_script.specs.declared.script.ScriptLine.{ScriptLine}
 use Rattle.sk_script.specs.Body.{body}
 use Rattle.sk_script.specs.Header.{answer, table, table_line}
-use Rattle.sk_script.specs.Legible.{capped, front_by, legible, reach}
+use Rattle.sk_script.specs.Legible.{capped, front_by, legible}
 use Rattle.sk_script.specs.Rules.{HasWords, IsBody, IsPassed, IsTable}
 use Rattle.sk_script.specs.Script.{and_then, behind, good_len, is_header, is_passed_over, is_table, line_added, passed, table_added, with_body, with_front, with_line, with_table}
 use Rattle.sk_script.proofs.BodyRules.{body_read, body_words}

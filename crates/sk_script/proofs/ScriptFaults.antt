@@ -10,7 +10,7 @@ use Rattle.sk_script.specs.declared.script.ScriptFault.{ScriptFault}
 use Rattle.sk_script.specs.declared.script.ScriptFault.TheVariants as fault
 use Rattle.sk_script.specs.Faults.{IsAnswer, IsFirstFaultAt, is_cut, line_of}
 use Rattle.sk_script.specs.Rules.{IsScript}
-use Rattle.sk_script.specs.Script.{gone_on, is_nil, nothing, pieces, read_from, script_of, with_last, wants, with_line, without_return}
+use Rattle.sk_script.specs.Script.{gone_on, is_nil, nothing, read_from, script_of, with_last, wants, with_line, without_return}
 use Rattle.sk_script.proofs.BodyFaults.{FailsAt}
 use Rattle.sk_script.proofs.Cuts.{some_piece}
 use Rattle.sk_script.proofs.LineFaults.{line_fault}

@@ -1,5 +1,5 @@
 -- Bytes are a script by the rules exactly where they are read as it.
-use Rattle.std.proofs.Common.{◌≡◌, ◌==◌, ℕ, zero, suc, ◌+◌, ◌≤◌, Bool, true, false, cond, not, ◌&&◌, ◌||◌, List, [], ◌∷◌, ◌++◌, length, map, take, append-nil, append_assoc, None, refl, sym, ap, subst, ◌∙◌, arith}
+use Rattle.std.proofs.Common.{◌≡◌, ◌==◌, ℕ, zero, suc, ◌+◌, ◌≤◌, Bool, true, false, cond, List, [], ◌∷◌, ◌++◌, length, map, take, append-nil, append_assoc, refl, sym, ap, subst, ◌∙◌, arith}
 use Rattle.std.specs.Prelude.{nat_lt, Result, Ok, Err}
 use Rattle.std.specs.List.{list_all}
 use Rattle.std.proofs.lemmas.Bool.{and_parts, le-ltb, ltb-false, not-true}
@@ -7,7 +7,6 @@ use Rattle.std.proofs.lemmas.Bool.Decides.{nat_tests}
 use Rattle.std.proofs.lemmas.List.{map-append}
 use Rattle.sk_lex.specs.Front.{Text}
 use Rattle.sk_rows.specs.declared.table.Table.{Table}
-use Rattle.sk_rows.specs.Catalog.{add_fault}
 use Rattle.sk_parse.specs.declared.fault.ParseFault.{ParseFault}
 use Rattle.sk_parse.specs.declared.fault.ParseFault.TheVariants as parse
 use Rattle.sk_script.specs.declared.legible.Legible.{Legible}
@@ -23,7 +22,7 @@ use Rattle.sk_script.specs.Script.{and_then, behind, goes_on, gone_on, is_header
 use Rattle.sk_script.specs.Tables.{CanAdd}
 use Rattle.sk_script.proofs.Cuts.{one_line, some_piece}
 use Rattle.sk_script.proofs.LineRules.{Adds, line_adds, line_read}
-use Rattle.sk_script.proofs.Takings.{gone_parts, script_tables, then_parts}
+use Rattle.sk_script.proofs.Takings.{gone_parts, script_tables}
 
 -- ---- lines
 

@@ -1,6 +1,6 @@
 -- Where the rules call the tokens of a TABLE line at fault, its words are not read there.
-use Rattle.std.proofs.Common.{◌≡◌, ◌==◌, ℕ, zero, suc, ◌+◌, ◌≤◌, Bool, true, false, cond, List, [], ◌∷◌, ◌++◌, length, Some, None, refl, sym, ap, ◌∙◌, arith}
-use Rattle.std.specs.Prelude.{Result, Ok, Err}
+use Rattle.std.proofs.Common.{◌≡◌, ◌==◌, ℕ, zero, suc, ◌≤◌, Bool, true, false, cond, List, [], ◌∷◌, ◌++◌, length, Some, refl, sym, ap, ◌∙◌, arith}
+use Rattle.std.specs.Prelude.{Ok, Err}
 use Rattle.std.proofs.lemmas.Bool.Decides.{nat_tests}
 use Rattle.sk_lex.specs.declared.token.Token.{Token}
 use Rattle.sk_lex.specs.declared.token.Word.{Word}
@@ -15,8 +15,8 @@ use Rattle.sk_parse.specs.Places.{words}
 use Rattle.sk_parse.specs.Statements.{place_of}
 use Rattle.sk_script.specs.declared.script.TableLine.{TableLine}
 use Rattle.sk_script.specs.Faults.{ColumnFault, IsColumnAt, Misses, TableFault}
-use Rattle.sk_script.specs.Header.{column, column_name, columns, columns_from, ended, engine, engine_of, is_bool_key, made, named, new_column, new_table, sort, sort_of, table, table_name}
-use Rattle.sk_script.proofs.TableFaults.{comma}
+use Rattle.sk_script.specs.Header.{column, column_name, columns, columns_from, ended, engine, is_bool_key, made, named, new_column, sort, sort_of, table, table_name}
+use Rattle.sk_script.proofs.TableFaults.{comma, length_words}
 
 -- ---- one column
 
@@ -124,10 +124,6 @@ module _ (end : ℕ) (name : List ℕ) (store : Bool) where
   reads_all : (t u : Token) (c : Column) → IsColumnAt [] t u c → (ts : List Token) → all_from (t ∷ u ∷ ts) ≡ list_from (length (words ts)) (c ∷ []) ts
   reads_all t u c is ts = ap (λ o. and_then (and_then o (λ c j. columns_from (length j) (c ∷ []) j)) finish) (column_reads [] t u c is ts)
 
-  length_words : (ts : List Token) → length ts ≤ length (words ts)
-  length_words [] = omega arith
-  length_words (t ∷ ts) = let more = length_words ts in omega arith
-
   by_fault : (cs : List Column) (ts : List Token) (place : ℕ) → cs ≡ [] → ColumnFault end cs ts place → Left end ts place (all_from ts)
   by_fault _ _ _ none (ColumnFault.name cs ts missing) =
       ([], ts, refl, fails_all ts (length (words ts)) (ap (λ l. column l (words ts)) (sym none) ∙ name_fails cs ts missing), refl)
@@ -138,7 +134,7 @@ module _ (end : ℕ) (name : List ℕ) (store : Bool) where
       (t ∷ u ∷ [], v ∷ ts, refl, reads_all t u c is (v ∷ ts) ∙ turn_ends (length (words ts)) (c ∷ []) v ts other, refl)
   by_fault _ _ _ none (ColumnFault.behind (d ∷ cs) t u v ts c is other) = absurd cc
   by_fault _ _ _ none (ColumnFault.later [] t u v ts c place is at f) =
-      let r = more_fails (c ∷ []) ts place f (length (words ts)) (length_words ts) in
+      let r = more_fails (c ∷ []) ts place f (length (words ts)) (let same = length_words ts in omega arith) in
       (t ∷ u ∷ v ∷ r.0, r.1, ap (λ l. t ∷ u ∷ v ∷ l) r.2, reads_all t u c is (v ∷ ts) ∙ turn_goes (length (words ts)) (c ∷ []) v ts at ∙ r.3, r.4)
   by_fault _ _ _ none (ColumnFault.later (d ∷ cs) t u v ts c place is at f) = absurd cc
 

@@ -1,6 +1,6 @@
 -- Where the words of a TABLE line are not read, its tokens are at fault there.
 use Rattle.std.proofs.Common.{◌≡◌, ◌==◌, ℕ, zero, suc, ◌+◌, ◌≤◌, Bool, true, false, cond, List, [], ◌∷◌, ◌++◌, length, Option, Some, None, refl, sym, ap, subst, ◌∙◌, arith}
-use Rattle.std.specs.Prelude.{Result, Ok, Err}
+use Rattle.std.specs.Prelude.{Ok, Err}
 use Rattle.std.proofs.lemmas.Bool.Decides.{nat_tests}
 use Rattle.sk_lex.specs.declared.token.Token.{Token}
 use Rattle.sk_lex.specs.declared.token.Word.{Word}
@@ -98,9 +98,9 @@ no_comma v ts at is =
 pub comma : (v : Token) (ts : List Token) → sees (sign.Mark 44 0) (words (v ∷ ts)) ≡ true → v.word ≡ word.Mark 44 0
 comma v ts at = let e = mark_at 44 0 (words (v ∷ ts)) at in cc
 
-length_words : (ts : List Token) → length ts ≤ length (words ts)
-length_words [] = omega arith
-length_words (t ∷ ts) = let more = length_words ts in omega arith
+pub length_words : (ts : List Token) → length (words ts) ≡ length ts
+length_words [] = refl
+length_words (t ∷ ts) = ap suc (length_words ts)
 
 module _ (end : ℕ) (name : List ℕ) (store : Bool) where
   abbrev finish : List Column → Input → Outcome Table
@@ -145,7 +145,8 @@ module _ (end : ℕ) (name : List ℕ) (store : Bool) where
       by : (o : Outcome Column) → View end [] ts o → and_then (and_then o (λ c j. columns_from (length j) (c ∷ []) j)) finish ≡ Err k → At (ColumnFault end []) end ts k
       by _ (View.fails us vs split f) e = (us, vs, split, sym (ap (err_or 0) e), f)
       by _ (View.reads t u rest c split is_column) e =
-          let r = loop (length (words rest)) (c ∷ []) rest (length_words rest) k e in
+          let enough : length rest ≤ length (words rest) = let same = length_words rest in omega arith in
+          let r = loop (length (words rest)) (c ∷ []) rest enough k e in
           (t ∷ u ∷ r.0, r.1, split ∙ ap (λ l. t ∷ u ∷ l) r.2, r.3, subst (λ l. ColumnFault end [] l (place_of end r.1)) (sym split) (behind_fault end [] t u c is_column rest (place_of end r.1) r.4))
 
 -- ---- the whole

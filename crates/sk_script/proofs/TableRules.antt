@@ -1,16 +1,14 @@
 -- The words of a TABLE line: they are read as a table exactly where the rules make it of them and a catalog takes it.
-use Rattle.std.proofs.Common.{◌≡◌, ◌==◌, ℕ, zero, suc, ◌≤◌, ◌<◌, Bool, true, false, cond, not, ◌&&◌, ◌||◌, List, [], ◌∷◌, ◌++◌, length, length-append, map, Option, Some, None, Ok, Err, refl, sym, ap, subst, ◌∙◌, append_assoc, append-nil, arith}
-use Rattle.std.specs.Prelude.{nat_lt, nat_le, Result}
+use Rattle.std.proofs.Common.{◌≡◌, ◌==◌, ℕ, zero, suc, ◌≤◌, ◌<◌, Bool, true, false, cond, not, ◌&&◌, ◌||◌, List, [], ◌∷◌, ◌++◌, length, length-append, map, Some, None, Ok, refl, sym, ap, subst, ◌∙◌, append_assoc, append-nil, arith}
+use Rattle.std.specs.Prelude.{nat_lt, nat_le}
 use Rattle.std.specs.Str.{bytes_eq}
 use Rattle.std.proofs.lemmas.Bool.{and_parts, or_parts, not-true, lt-ltb, leb-true, leb-false}
 use Rattle.std.proofs.lemmas.Bool.Decides.{nat_tests}
 use Rattle.std.proofs.lemmas.List.{length-map}
 use Rattle.std.proofs.lemmas.List.Folds.{list_any-append}
 use Rattle.sk_lex.specs.declared.token.Keyword.TheVariants as key
-use Rattle.sk_lex.specs.declared.token.Token.{Token}
 use Rattle.sk_lex.specs.declared.token.Word.{Word}
 use Rattle.sk_lex.specs.declared.token.Word.TheVariants as word
-use Rattle.sk_rows.specs.declared.catalog.CatalogFault.{CatalogFault}
 use Rattle.sk_rows.specs.declared.catalog.CatalogFault.TheVariants as wrong
 use Rattle.sk_rows.specs.declared.table.Column.{Column}
 use Rattle.sk_rows.specs.declared.table.Table.{Table}
@@ -19,14 +17,14 @@ use Rattle.sk_rows.specs.declared.value.Sort.TheVariants as sorts
 use Rattle.sk_rows.specs.Catalog.{add_fault, are_columns, are_named, has_bool_key, has_column, has_table as has_name, is_bool}
 use Rattle.sk_rows.specs.Names.{is_name}
 use Rattle.sk_parse.specs.declared.cursor.Sign.TheVariants as sign
-use Rattle.sk_parse.specs.Input.{Input, Outcome, ◌>>=◌, after, and_then, next, pure, refuse, sees, take_some}
+use Rattle.sk_parse.specs.Input.{Input, ◌>>=◌, after, and_then, next, pure, refuse, sees, take_some}
 use Rattle.sk_parse.specs.Saying.{AreListed, AreMore}
 use Rattle.sk_parse.proofs.Sound.{Gave, bind_ok, mark_at, never, same, taken_ok}
 use Rattle.sk_script.specs.declared.script.TableLine.{TableLine}
 use Rattle.sk_script.specs.Header.{column, column_name, columns, columns_from, ended, engine, engine_of, has_table, is_bool_key, made, named, new_column, new_table, sort, sort_of, table, table_name}
 use Rattle.sk_script.specs.Rules.{IsColumn, engine_key, sort_key}
 use Rattle.sk_script.proofs.Columns.{unlike}
-use Rattle.sk_script.proofs.NewTables.{same_names, table_taken}
+use Rattle.sk_script.proofs.NewTables.{same_names}
 use Rattle.sk_script.proofs.Parts.{kept}
 
 -- ---- what is read stands in the words

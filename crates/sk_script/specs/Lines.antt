@@ -1,5 +1,5 @@
 -- The tokens of a line, and what comes back of them.
-use Rattle.std.specs.Prelude.{◌≡◌, ◌≤◌, ◌<◌, ℕ, Bool, true, false, List, All}
+use Rattle.std.specs.Prelude.{◌≤◌, ◌<◌, ℕ, Bool, true, false, List, All}
 use Rattle.std.specs.List.{AllPairs}
 use Rattle.sk_lex.specs.declared.token.Token.{Token}
 use Rattle.sk_parse.specs.declared.fault.ParseFault.{ParseFault}

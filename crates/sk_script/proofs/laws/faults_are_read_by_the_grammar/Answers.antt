@@ -1,4 +1,4 @@
-use Rattle.sk_script.proofs.FaultsStand.{placed}
+use Rattle.sk_script.proofs.ScriptFails.{placed}
 use Rattle.sk_script.proofs.laws.faults_are_read_by_the_grammar.Goals as goal
 
 pub returns : goal.returns

@@ -1,39 +1,33 @@
 -- What the rules call the first fault of a script is the one that is answered.
-use Rattle.std.proofs.Common.{◌≡◌, ℕ, ◌+◌, ◌-◌, ◌<◌, Bool, true, false, cond, not, ◌&&◌, ◌||◌, List, [], ◌∷◌, ◌++◌, length, map, take, refl, sym, ap, subst, ◌∙◌, arith, ◌⊎◌, inl, inr}
-use Rattle.std.specs.Prelude.{nat_lt, Result, Ok, Err}
+use Rattle.std.proofs.Common.{◌≡◌, ℕ, ◌+◌, ◌<◌, Bool, true, false, cond, ◌||◌, List, [], ◌∷◌, ◌++◌, length, map, refl, sym, ap, ◌∙◌, arith, ◌⊎◌, inl, inr}
+use Rattle.std.specs.Prelude.{nat_lt, Ok, Err}
+use Rattle.std.proofs.Math.Bool.{or-true}
 use Rattle.std.proofs.lemmas.Bool.{lt-ltb}
-use Rattle.sk_lex.specs.declared.token.Keyword.TheVariants as key
 use Rattle.sk_lex.specs.declared.token.Token.{Token}
 use Rattle.sk_lex.specs.declared.token.Word.{Word}
 use Rattle.sk_lex.specs.declared.token.Word.TheVariants as word
 use Rattle.sk_lex.specs.Front.{Text}
-use Rattle.sk_rows.specs.declared.table.Table.{Table}
-use Rattle.sk_rows.specs.Catalog.{add_fault}
-use Rattle.sk_parse.specs.declared.fault.ParseFault.{ParseFault}
 use Rattle.sk_parse.specs.declared.fault.ParseFault.TheVariants as parse
 use Rattle.sk_parse.specs.Input.{next}
 use Rattle.sk_parse.specs.Places.{words}
-use Rattle.sk_parse.specs.Statements.{place_of}
 use Rattle.sk_script.specs.declared.legible.Legible.{Legible}
 use Rattle.sk_script.specs.declared.script.Line.{Line}
 use Rattle.sk_script.specs.declared.script.Script.{Script}
-use Rattle.sk_script.specs.declared.script.ScriptFault.{ScriptFault}
 use Rattle.sk_script.specs.declared.script.ScriptFault.TheVariants as fault
-use Rattle.sk_script.specs.declared.script.ScriptLine.{ScriptLine}
-use Rattle.sk_script.specs.Body.{body}
 use Rattle.sk_script.specs.Faults.{IsFirstFaultAt, IsPlaced, LineFault, TableFault, is_cut, line_of, rest_of}
-use Rattle.sk_script.specs.Header.{answer, place, table, table_line}
+use Rattle.sk_script.specs.Header.{answer, table, table_line}
 use Rattle.sk_script.specs.Legible.{legible}
-use Rattle.sk_script.specs.Rules.{IsBody, IsTable, Makes}
-use Rattle.sk_script.specs.Script.{and_then, at, behind, good_len, gone_on, is_header, is_nil, is_passed_over, line_added, nothing, passed, pieces, read_from, script_of, table_added, with_body, with_front, with_last, with_line, with_table, without_return}
+use Rattle.sk_script.specs.Rules.{IsBody, Makes}
+use Rattle.sk_script.specs.Script.{and_then, behind, good_len, gone_on, is_header, is_passed_over, line_added, nothing, passed, read_from, script_of, table_added, with_body, with_front, with_last, with_line, with_table, without_return}
 use Rattle.sk_script.proofs.BodyFaults.{FailsAt}
 use Rattle.sk_script.proofs.BodyRules.{body_read}
-use Rattle.sk_script.proofs.FaultsRead.{body_fails}
+use Rattle.sk_script.proofs.BodyFails.{body_fails}
 use Rattle.sk_script.proofs.LineFaults.{begins_some, place_is}
 use Rattle.sk_script.proofs.LineRules.{header_is, no_header, table_line_read}
 use Rattle.sk_script.proofs.ScriptFaults.{first_fault}
 use Rattle.sk_script.proofs.ScriptRules.{bodies_run, headers_run, run}
 use Rattle.sk_script.proofs.TableFails.{table_fails}
+use Rattle.sk_script.proofs.Takings.{gone_parts}
 
 -- ---- one line
 
@@ -59,11 +53,7 @@ by_header script n front b is = ap (λ b. cond b (with_table script n front) (wi
 
 is_bad : (long : Bool) (line : Text) → (long ≡ true) ⊎ (good_len line < length line) → (long || nat_lt (good_len line) (length line)) ≡ true
 is_bad long line (inl is) = ap (λ b. b || nat_lt (good_len line) (length line)) is
-is_bad long line (inr is) = ap (λ b. long || b) (lt-ltb (good_len line) (length line) is) ∙ or_true long
-  where
-    or_true : (b : Bool) → (b || true) ≡ true
-    or_true true = refl
-    or_true false = refl
+is_bad long line (inr is) = ap (λ b. long || b) (lt-ltb (good_len line) (length line) is) ∙ or-true long
 
 body_begins : (ws : List Word) (what : Line) → IsBody ws what → (m : ℕ) × (us : List Word) × (ws ≡ word.Number m ∷ us)
 body_begins _ _ (IsBody.plain m us s session says) = (m, _, refl)
@@ -112,7 +102,7 @@ run_reads long [] script m q qs after is =
     let here : m ≡ m + 0 = omega arith in
     ap (λ s. read_from long s m (q ∷ qs)) same ∙ ap (λ k. read_from long after k (q ∷ qs)) here
 run_reads long (p ∷ ps) script m q qs after is =
-    let parts = Rattle.sk_script.proofs.Takings.gone_parts m (with_line false script m (without_return p)) (λ after. run after (m + 1) (map without_return ps)) after is in
+    let parts = gone_parts m (with_line false script m (without_return p)) (λ after. run after (m + 1) (map without_return ps)) after is in
     let further : m + 1 + length ps ≡ m + length (p ∷ ps) = omega arith in
     one_step long script m p ps q qs
     ∙ ap (λ r. gone_on m r (λ after. read_from long after (m + 1) (ps ++ q ∷ qs))) parts.1

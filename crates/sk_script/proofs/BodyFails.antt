@@ -1,34 +1,21 @@
--- What the rules call the first fault is the one that is read.
-use Rattle.std.proofs.Common.{◌≡◌, ◌==◌, ℕ, zero, suc, ◌+◌, ◌≤◌, ◌<◌, Bool, true, false, cond, not, ◌&&◌, ◌||◌, List, [], ◌∷◌, ◌++◌, length, map, take, append-nil, append_assoc, Option, Some, None, refl, sym, ap, subst, ◌∙◌, arith, ◌⊎◌, inl, inr}
-use Rattle.std.specs.Prelude.{nat_lt, Result, Ok, Err}
-use Rattle.std.specs.List.{list_all}
-use Rattle.std.proofs.lemmas.Bool.{lt-ltb}
-use Rattle.std.proofs.lemmas.Bool.Decides.{nat_tests}
+-- Where the rules call the tokens of a session's line at fault, its words are not read there.
+use Rattle.std.proofs.Common.{◌≡◌, ℕ, ◌+◌, Bool, true, false, cond, List, [], ◌∷◌, ◌++◌, append-nil, append_assoc, Some, refl, sym, ap, subst, ◌∙◌, ◌⊎◌, inl, inr}
+use Rattle.std.specs.Prelude.{Result, Ok, Err}
 use Rattle.std.proofs.lemmas.List.{map-append}
 use Rattle.sk_lex.specs.declared.token.Token.{Token}
-use Rattle.sk_lex.specs.declared.token.Word.{Word}
 use Rattle.sk_lex.specs.declared.token.Word.TheVariants as word
-use Rattle.sk_lex.specs.Front.{Text}
 use Rattle.sk_rows.specs.declared.statement.Statement.{Statement}
-use Rattle.sk_rows.specs.declared.table.Column.{Column}
-use Rattle.sk_rows.specs.declared.table.Table.{Table}
-use Rattle.sk_rows.specs.declared.value.Sort.{Sort}
-use Rattle.sk_rows.specs.declared.value.Sort.TheVariants as sorts
 use Rattle.sk_parse.specs.declared.fault.ParseFault.{ParseFault}
 use Rattle.sk_parse.specs.declared.fault.ParseFault.TheVariants as parse
-use Rattle.sk_parse.specs.declared.cursor.Sign.TheVariants as sign
-use Rattle.sk_parse.specs.Input.{Input, Outcome, ◌>>=◌, after, and_then as and_read, next, pure, refuse, sees, take_some}
-use Rattle.sk_parse.specs.Places.{IsFirstFault, words}
+use Rattle.sk_parse.specs.Input.{Outcome}
+use Rattle.sk_parse.specs.Places.{IsFirstFault, IsRefused, words}
 use Rattle.sk_parse.specs.Saying.{Says}
 use Rattle.sk_parse.specs.Statements.{answer as answered_by, place_of, statement, whole}
 use Rattle.sk_parse.proofs.Answered.{answered}
-use Rattle.sk_script.specs.declared.script.Line.{Line}
-use Rattle.sk_script.specs.declared.script.Script.{Script}
-use Rattle.sk_script.specs.declared.script.TableLine.{TableLine}
-use Rattle.sk_script.specs.Body.{alone, behind_session, body, by_session, closed, goes_on, is_mark, misfit, said, says, session_of}
+use Rattle.sk_script.specs.Body.{alone, behind_session, body, by_session, closed, is_mark, misfit, said, says, session_of}
 use Rattle.sk_script.specs.Faults.{BodyFault, IsNoMark}
 use Rattle.sk_script.proofs.BodyFaults.{FailsAt}
-use Rattle.sk_script.proofs.BodyRules.{open_tokens, said_closed, said_plain, statement_read}
+use Rattle.sk_script.proofs.BodyRules.{mark_word, open_tokens, said_closed, said_plain, statement_read}
 use Rattle.sk_script.proofs.NoSemicolon.{goes}
 
 -- ---- statements
@@ -58,7 +45,7 @@ two_cuts (u ∷ us) vs (v ∷ us2) vs2 is = by (two_cuts us vs us2 vs2 tail)
 not_later : (ts : List Token) (end place place2 : ℕ) → (f : IsFirstFault ts end place) → (g : IsFirstFault ts end place2) → IsLater f.0 f.1 g.0 g.1 → place ≡ place2
 not_later ts end place place2 f g l = by l.between f.1 l.front l.back f.5 f.3
   where
-    by : (between vs : List Token) → g.0 ≡ f.0 ++ between → vs ≡ between ++ g.1 → Rattle.sk_parse.specs.Places.IsRefused (words f.0) vs → place ≡ place_of end vs → place ≡ place2
+    by : (between vs : List Token) → g.0 ≡ f.0 ++ between → vs ≡ between ++ g.1 → IsRefused (words f.0) vs → place ≡ place_of end vs → place ≡ place2
     by [] vs front back refused here = here ∙ ap (place_of end) back ∙ sym g.3
     by (w ∷ more) [] front back refused here = absurd cc
     by (w ∷ more) (v ∷ vs) front back refused here =
@@ -74,7 +61,7 @@ not_later ts end place place2 f g l = by l.between f.1 l.front l.back f.5 f.3
 said_not : (ts : List Token) (end place : ℕ) (s : Statement) → IsFirstFault ts end place → ¬ Says (words ts) s
 said_not ts end place s f is = by f.1 f.2 f.5
   where
-    by : (vs : List Token) → ts ≡ f.0 ++ vs → Rattle.sk_parse.specs.Places.IsRefused (words f.0) vs → ⊥
+    by : (vs : List Token) → ts ≡ f.0 ++ vs → IsRefused (words f.0) vs → ⊥
     by [] split refused = refused s (subst (λ l. Says (words l) s) (split ∙ append-nil f.0) is)
     by (v ∷ vs) split refused = refused (words vs) s (subst (λ l. Says l s) (ap words split ∙ map-append (λ (t : Token). t.word) f.0 (v ∷ vs)) is)
 
@@ -104,7 +91,7 @@ colon_missing n [] end none = refl
 colon_missing n (c ∷ ts) end none = by (is_mark 58 c.word) refl
   where
     by : (b : Bool) → is_mark 58 c.word ≡ b → FailsAt (cond b (says n (said ts end)) (misfit (c ∷ ts) end)) (c.from + 1)
-    by true is = absurd (none (Rattle.sk_script.proofs.BodyRules.mark_word 58 c.word is))
+    by true is = absurd (none (mark_word 58 c.word is))
     by false is = refl
 
 behind_colon : (t c : Token) (ts : List Token) (n end place : ℕ) → session_of t.word ≡ Some n → c.word ≡ word.Mark 58 0 → FailsAt (said ts end) place → FailsAt (body (t ∷ c ∷ ts) end) place
