@@ -6,7 +6,7 @@ use Rattle.sk_model.specs.EngineReplies.{last_in}
 use Rattle.sk_model.specs.Records.{same_label}
 use Rattle.sk_chain.specs.declared.version.Seen.TheVariants.{At, Busy}
 use Rattle.sk_chain.specs.Chained.{Chained, Version, listed, versions}
-use Rattle.sk_chain.specs.Reading.{is_upto, is_closed_below, later_or, newest, seen_place, over, Sees, Waits, seen_at, shown, last_upto, found_over, found}
+use Rattle.sk_chain.specs.Reading.{is_upto, is_closed_below, later_or, newest, seen_place, over, Sees, Waits, seen_at, sight_of, last_upto, found_over, found}
 
 abbrev pub first_of : Option Version → Option Version → Option Version
 first_of (Some v) other = Some v
@@ -61,7 +61,7 @@ fits s (v ∷ vs) ws =
     subst (λ f. Fits (newest s (v ∷ vs)) (v ∷ (vs ++ ws)) f) (sym (last_upto-cons s v vs))
     (fits_more v (vs ++ ws) (newest s vs) (last_upto s vs) (is_upto s v.state) (fits s vs ws))
 
-place_is : (o : Option ℕ) (vs : List Version) → shown vs (seen_place o) ≡ Sees (at_place o vs)
+place_is : (o : Option ℕ) (vs : List Version) → sight_of vs (seen_place o) ≡ Sees (at_place o vs)
 place_is None vs = refl
 place_is (Some at) vs = refl
 
@@ -69,17 +69,17 @@ at_end : (v : Version) (vs : List Version) → slice_get (vs ++ v ∷ []) (lengt
 at_end v [] = refl
 at_end v (w ∷ ws) = at_end v ws
 
-shows : (by : Label) (s : ℕ) (vs : List Version) (t : Option Version) → shown (vs ++ listed t) (over by s (length vs) t (seen_place (newest s vs))) ≡ found_over by s t (last_upto s vs)
+shows : (by : Label) (s : ℕ) (vs : List Version) (t : Option Version) → sight_of (vs ++ listed t) (over by s (length vs) t (seen_place (newest s vs))) ≡ found_over by s t (last_upto s vs)
 shows by s vs None = place_is (newest s vs) (vs ++ []) ∙ ap Sees (fits s vs []).place
 shows by s vs (Some v) = choose (same_label by v.by) (is_closed_below s v.state)
   where
     choose : (own waits : Bool)
-        → shown (vs ++ v ∷ []) (cond own (At (length vs)) (cond waits (Busy v.by) (seen_place (newest s vs))))
+        → sight_of (vs ++ v ∷ []) (cond own (At (length vs)) (cond waits (Busy v.by) (seen_place (newest s vs))))
         ≡ cond own (Sees (Some v)) (cond waits (Waits v.by) (Sees (last_upto s vs)))
     choose true waits = ap Sees (at_end v vs)
     choose false true = refl
     choose false false = place_is (newest s vs) (vs ++ v ∷ []) ∙ ap Sees (fits s vs (v ∷ [])).place
 
 -- what stands at the place that a reader sees is what it is to find
-pub place_shows : (c : Chained) (by : Label) (s : ℕ) → shown (versions c) (seen_at c by s) ≡ found c by s
+pub place_shows : (c : Chained) (by : Label) (s : ℕ) → sight_of (versions c) (seen_at c by s) ≡ found c by s
 place_shows c by s = shows by s c.settled c.top

@@ -50,10 +50,10 @@ pub data Sight : Type 0 where
   Waits : (by : Label) → Sight
 
 -- what stands at the place that was answered
-abbrev pub shown : List Version → Seen → Sight
-shown vs (At at) = Sees (slice_get vs at)
-shown vs Nothing = Sees None
-shown vs (Busy by) = Waits by
+abbrev pub sight_of : List Version → Seen → Sight
+sight_of vs (At at) = Sees (slice_get vs at)
+sight_of vs Nothing = Sees None
+sight_of vs (Busy by) = Waits by
 
 -- the last of these that is stamped with a number up to s
 abbrev pub last_upto : ℕ → List Version → Option Version

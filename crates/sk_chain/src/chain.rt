@@ -5,7 +5,7 @@ ghost use Rattle.std.specs.Option.{option_copied};
 ghost use Rattle.sk_model.specs.declared.label.Label.{Label};
 ghost use Rattle.sk_model.specs.EngineReplies.{last_in};
 ghost use Rattle.sk_chain.specs.Chained.{empty, versions, IsChain};
-ghost use Rattle.sk_chain.specs.Reading.{newest, seen_at, shown, found};
+ghost use Rattle.sk_chain.specs.Reading.{newest, seen_at, sight_of, found};
 ghost use Rattle.sk_chain.specs.Writing.{past_of, conflict};
 ghost use Rattle.sk_chain.specs.Changing.{may_push, pushed, closed, stamped, voided, trimmed};
 
@@ -75,7 +75,7 @@ impl Chain {
     #[tactic(auto, using(crate::proofs::Finding::place_shows))]
     pub fn seen_at(&self, by: Label, snapshot: u32) -> Seen
         ensures value { result ≡ seen_at self.now by snapshot }
-        ensures finds { shown (versions self.now) result ≡ found self.now by snapshot }
+        ensures finds { sight_of (versions self.now) result ≡ found self.now by snapshot }
     {
         if let Some(top) = &self.top {
             if same_label(by, top.by) {

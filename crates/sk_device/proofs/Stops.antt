@@ -7,13 +7,13 @@ use Rattle.sk_device.specs.declared.change.Change.{Change}
 use Rattle.sk_device.specs.declared.change.Change.TheVariants.{Wrote, Synced}
 use Rattle.sk_device.specs.declared.change.Written.{Written}
 use Rattle.sk_device.specs.Disk.{Image, overwritten}
-use Rattle.sk_device.specs.Changes.{shown, rewritten, front_rewritten, left_by, syncs, IsMixed, AreMixed, Remains}
+use Rattle.sk_device.specs.Changes.{image_after, rewritten, front_rewritten, left_by, syncs, IsMixed, AreMixed, Remains}
 use Rattle.sk_device.proofs.Mixes.{unmixed, rewritten_there, fronts_mixed}
 
 -- An image after the first changes, the last of them first. A file that one of the later changes syncs reads as a read gives it.
 pub record IsRedone (before later : List Change) (image : Image) : Type 0 where
   pub left : Remains before image
-  pub settled : (file : ℕ) → list_any (syncs file) later ≡ true → image file ≡ shown before file
+  pub settled : (file : ℕ) → list_any (syncs file) later ≡ true → image file ≡ image_after before file
 
 or_right : (b x : Bool) → x ≡ true → (b || x) ≡ true
 or_right true x is = refl
@@ -33,12 +33,12 @@ module _ (before later : List Change) (image new : Image) where
       mix : AreMixed image (rewritten w image) new
       mix file = subst (λ (l : List ℕ). IsMixed (image file) (rewritten w image file) l) (sym (made file)) (fronts_mixed w count image file)
 
-      settled : (file : ℕ) → list_any (syncs file) later ≡ true → new file ≡ rewritten w (shown before) file
+      settled : (file : ℕ) → list_any (syncs file) later ≡ true → new file ≡ rewritten w (image_after before) file
       settled file is = elim (cases_eq file w.file) [
         | inl here ↦ absurd (true≢false (sym (subst (λ (f : ℕ). list_any (syncs f) later ≡ true) here is) ∙ unsynced))
         | inr ne ↦
             let same : new file ≡ image file = unmixed (image file) (new file) (subst (λ (l : List ℕ). IsMixed (image file) l (new file)) (rewritten_there w image file ne) (mix file)) in
-            same ∙ redone.settled file is ∙ sym (rewritten_there w (shown before) file ne)
+            same ∙ redone.settled file is ∙ sym (rewritten_there w (image_after before) file ne)
       ]
 
 pub synced : (before later : List Change) (image new : Image) (file : ℕ) → new ≡ image → IsRedone before (Synced file ∷ later) image → IsRedone (Synced file ∷ before) later new

@@ -5,12 +5,12 @@ use Rattle.sk_device.specs.declared.change.Change.TheVariants.{Wrote, Synced}
 use Rattle.sk_device.specs.declared.change.Written.{Written}
 use Rattle.sk_device.specs.declared.tearing.TearingDevice.{TearingDevice}
 use Rattle.sk_device.specs.Disk.{Image, Torn, AfterStep, Steps, Looks}
-use Rattle.sk_device.specs.Changes.{shown, Remains, Remained, counts_since}
+use Rattle.sk_device.specs.Changes.{image_after, Remains, Remained, counts_since}
 use Rattle.sk_device.specs.Tearing.{changes_made, tearing_disk}
 use Rattle.sk_device.proofs.Mixes.{written_torn}
 
 -- the same files, and changes that show the same
-pub kept : (now was : Image) (old new : List Change) → now ≡ was → shown new ≡ shown old → ((file : ℕ) → was file ≡ shown old file) → (file : ℕ) → now file ≡ shown new file
+pub kept : (now was : Image) (old new : List Change) → now ≡ was → image_after new ≡ image_after old → ((file : ℕ) → was file ≡ image_after old file) → (file : ℕ) → now file ≡ image_after new file
 kept now was old new same show is file = ap (λ (im : Image). im file) same ∙ is file ∙ ap (λ (im : Image). im file) (sym show)
 
 -- a write that was done
@@ -33,7 +33,7 @@ steps_wrote m n w file at bytes is_file is_at is_bytes more = record {
 -- a sync that was done
 pub looks_synced : (m n : TearingDevice) (file : ℕ) → changes_made n ≡ Synced file ∷ changes_made m → Looks tearing_disk m n
 looks_synced m n file more = record {
-  seen = ap shown more;
+  seen = ap image_after more;
   later = omega (arith, ap length more);
   now = λ image left. (subst (λ (l : List Change). Remains l image) more left).0;
   since = λ t image le left. ⊎_elim (λ now. counts_since t (changes_made m) image now.0) (λ (_, past). past) (subst (λ (l : List Change). Remained t l image) more left);

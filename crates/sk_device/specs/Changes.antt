@@ -17,10 +17,10 @@ abbrev pub rewritten : Written → Image → Image
 rewritten w was file = if file == w.file then overwritten (was file) w.at w.bytes.items else was file
 
 -- what a read gives after these changes
-abbrev pub shown : List Change → Image
-shown [] = blank
-shown (Wrote w ∷ before) = rewritten w (shown before)
-shown (Synced file ∷ before) = shown before
+abbrev pub image_after : List Change → Image
+image_after [] = blank
+image_after (Wrote w ∷ before) = rewritten w (image_after before)
+image_after (Synced file ∷ before) = image_after before
 
 -- whether the change is a sync of this file
 abbrev pub syncs : ℕ → Change → Bool
@@ -39,7 +39,7 @@ AreMixed one other mixed = (file : ℕ) → IsMixed (one file) (other file) (mix
 abbrev pub Remains : List Change → Image → Type 0
 Remains [] image = image ≡ blank
 Remains (Wrote w ∷ before) image = (was : Image) × Remains before was × AreMixed was (rewritten w was) image
-Remains (Synced file ∷ before) image = Remains before image × (image file ≡ shown before file)
+Remains (Synced file ∷ before) image = Remains before image × (image file ≡ image_after before file)
 
 -- what a stop might have left at one of the moments since the first t of these changes
 abbrev pub Remained : ℕ → List Change → Image → Type 0
@@ -58,9 +58,9 @@ left_by (Wrote w ∷ later) choices was =
     if list_any (syncs w.file) later then left_by later choices (rewritten w was) else left_by later (drop 1 choices) (front_rewritten w (slice_index choices 0) was)
 left_by (Synced file ∷ later) choices was = left_by later choices was
 
-pub shown_remains : (changes : List Change) → Remains changes (shown changes)
+pub shown_remains : (changes : List Change) → Remains changes (image_after changes)
 shown_remains [] = refl
-shown_remains (Wrote w ∷ before) = (shown before, shown_remains before, λ file k. inr refl)
+shown_remains (Wrote w ∷ before) = (image_after before, shown_remains before, λ file k. inr refl)
 shown_remains (Synced file ∷ before) = (shown_remains before, refl)
 
 pub counts_since : (t : ℕ) (changes : List Change) (image : Image) → Remains changes image → Remained t changes image

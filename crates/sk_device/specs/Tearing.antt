@@ -4,7 +4,7 @@ use Rattle.sk_device.specs.declared.change.Change.{Change}
 use Rattle.sk_device.specs.declared.memory.MemDevice.{MemDevice}
 use Rattle.sk_device.specs.declared.tearing.TearingDevice.{TearingDevice}
 use Rattle.sk_device.specs.Disk.{Disk}
-use Rattle.sk_device.specs.Changes.{shown, Remains, Remained, shown_remains, counts_since, only_since}
+use Rattle.sk_device.specs.Changes.{image_after, Remains, Remained, shown_remains, counts_since, only_since}
 
 -- the writes and syncs that were done, the first one first
 abbrev pub log_of : TearingDevice → List Change
@@ -21,7 +21,7 @@ memory_of device = device.memory
 abbrev pub tearing_disk : Disk TearingDevice
 tearing_disk = record {
   tells = true;
-  seen = λ device. shown (changes_made device);
+  seen = λ device. image_after (changes_made device);
   may_leave = λ device image. Remains (changes_made device) image;
   moment = λ device. length (changes_made device);
   left_since = λ device t image. Remained t (changes_made device) image;

@@ -1,6 +1,6 @@
 //! Files in memory, of which a stop may leave the writes since the last syncs torn.
 ghost use Rattle.std.specs.Prelude.{◌≡◌, ◌∷◌, ◌+◌, ◌≤◌, ◌<◌, ℕ, reverse, length, vec_len, vec_capacity, IfOk, OnOk};
-ghost use Rattle.sk_device.specs.Changes.{shown, left_by, blank};
+ghost use Rattle.sk_device.specs.Changes.{image_after, left_by, blank};
 ghost use Rattle.sk_device.specs.Memory.{memory_image};
 
 use crate::change::{Change, Written};
@@ -19,7 +19,7 @@ pub struct TearingDevice {
     alloc: Global,
     memory: MemDevice,
     log: Vec<Change>,
-    ghost same: { (file : ℕ) → memory_image memory file ≡ shown (reverse log.items) file },
+    ghost same: { (file : ℕ) → memory_image memory file ≡ image_after (reverse log.items) file },
 }
 
 impl TearingDevice {

@@ -11,7 +11,7 @@ use Rattle.sk_rows.specs.Evaluation.{◌>>=◌}
 use Rattle.sk_model.specs.Database.{KeyedRows, RowOf}
 use Rattle.sk_model.specs.Reads.{meets, rows_met}
 use Rattle.sk_model.specs.Changes.{new_rows}
-use Rattle.sk_model.specs.Replies.{deleted, inserted, shown, updated}
+use Rattle.sk_model.specs.Replies.{deleted, inserted, select_answer, updated}
 use Rattle.sk_expr.specs.Concerns.{IsSameOverConcerned, counts}
 
 all_kept : (rows : KeyedRows) → filter (λ r. true) rows ≡ rows
@@ -43,6 +43,6 @@ concerned columns t (statement.Begin begun) rows None = refl
 concerned columns t statement.Commit rows None = refl
 concerned columns t statement.Rollback rows None = refl
 concerned columns t (statement.Insert table values) rows None = ap (inserted t values) (all_kept rows)
-concerned columns t (statement.Select table names e) rows None = ap (shown columns names) (same_met columns e rows)
+concerned columns t (statement.Select table names e) rows None = ap (select_answer columns names) (same_met columns e rows)
 concerned columns t (statement.Update table sets e) rows None = ap (λ met. updated t (met >>= new_rows columns sets)) (same_met columns e rows)
 concerned columns t (statement.Delete table e) rows None = ap (deleted t) (same_met columns e rows)

@@ -112,14 +112,14 @@ fn inserted(
 }
 
 /// SELECT of the rows that meet the condition.
-fn shown(
+fn select_answer(
     alloc: Global,
     columns: &[Column],
     names: &Option<NameList>,
     cond: &Option<Expr>,
     rows: KeyedRows,
 ) -> Result<Answer, NoMemory>
-    ensures { IfOk result (λ a. a ≡ spec.shown columns.now names.now (rows_met_spec columns.now cond.now rows)) }
+    ensures { IfOk result (λ a. a ≡ spec.select_answer columns.now names.now (rows_met_spec columns.now cond.now rows)) }
 {
     match rows_met(alloc, columns, cond, rows) {
         Err(ValueFault::NoMemory) => Err(NoMemory),
@@ -214,7 +214,7 @@ pub fn comes_to(
             columns: names,
             cond,
             ..
-        } => shown(alloc, columns, names, cond, rows),
+        } => select_answer(alloc, columns, names, cond, rows),
         Statement::Update { sets, cond, .. } => {
             updated(alloc, columns, number, sets.as_slice(), cond, rows)
         }

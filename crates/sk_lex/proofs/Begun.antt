@@ -7,14 +7,14 @@ use Rattle.std.proofs.lemmas.List.Elements.{All-nil, All-cons, All-head, All-tai
 use Rattle.sk_lex.specs.declared.front.Misfit.TheVariants as misfit
 use Rattle.sk_rows.specs.declared.memory.NoMemory.{NoMemory}
 use Rattle.sk_lex.specs.declared.scanning.Scanned.{Scanned}
-use Rattle.sk_lex.specs.declared.scanning.Stop.{Stop}
-use Rattle.sk_lex.specs.declared.scanning.Stop.TheVariants as stop
+use Rattle.sk_lex.specs.declared.scanning.ScanFault.{ScanFault}
+use Rattle.sk_lex.specs.declared.scanning.ScanFault.TheVariants as scan_fault
 use Rattle.sk_lex.specs.declared.token.Token.{Token}
 use Rattle.sk_lex.specs.Front.{Text, Found, front}
-use Rattle.sk_lex.specs.Scanning.{Scan, begin_of, begun, scan, scan_from, scan_on, stop_begun, token}
+use Rattle.sk_lex.specs.Scanning.{Scan, begin_of, begun, scan, scan_from, scan_on, fault_begun, token}
 
 -- the fault is in a token that begins there
-abbrev IsFrom : ℕ → ℕ → Option Stop → Type 0
+abbrev IsFrom : ℕ → ℕ → Option ScanFault → Type 0
 IsFrom at end None = Unit {0}
 IsFrom at end (Some s) = (at ≤ begin_of s) × (begin_of s < end)
 
@@ -26,7 +26,7 @@ record Goes (found : List Token) (at end : ℕ) (s : Scan) : Type 0 where
   within : All (λ t. t.from < end) more
   fault : IsFrom at end s.1
 
-later : (at to end : ℕ) (s : Option Stop) → at ≤ to → IsFrom to end s → IsFrom at end s
+later : (at to end : ℕ) (s : Option ScanFault) → at ≤ to → IsFrom to end s → IsFrom at end s
 later at to end None le is = tt
 later at to end (Some s) le is = (omega (arith, is.0), is.1)
 
@@ -39,7 +39,7 @@ wider found at to end s le g = record {
   fault = later at to end s.1 le g.fault;
 }
 
-nothing_more : (found : List Token) (at end : ℕ) (s : Option Stop) → IsFrom at end s → Goes found at end (found, s)
+nothing_more : (found : List Token) (at end : ℕ) (s : Option ScanFault) → IsFrom at end s → Goes found at end (found, s)
 nothing_more found at end s is = record {
   more = [];
   tokens = sym (append-nil found);
@@ -60,8 +60,8 @@ one_more found at end t s is less g = record {
 by_front : (found : List Token) (at end : ℕ) (more : List Token → ℕ → Scan) (r : Found) → at < end
     → ((longer : List Token) (left : ℕ) → Goes longer at end (more longer left)) → Goes found at end (scan_on found at more r)
 by_front found at end more (Ok r) less ih = one_more found at end (token at r) (more (found ++ token at r ∷ []) (r.1 - 1)) refl less (ih (found ++ token at r ∷ []) (r.1 - 1))
-by_front found at end more (Err (misfit.Bad n)) less ih = nothing_more found at end (Some (stop.BadByte at (at + n + 1))) (omega arith, less)
-by_front found at end more (Err misfit.Open) less ih = nothing_more found at end (Some (stop.OpenText (at + 1))) (omega arith, omega arith)
+by_front found at end more (Err (misfit.Bad n)) less ih = nothing_more found at end (Some (scan_fault.BadByte at (at + n + 1))) (omega arith, less)
+by_front found at end more (Err misfit.Open) less ih = nothing_more found at end (Some (scan_fault.OpenText (at + 1))) (omega arith, omega arith)
 by_front found at end more (Err misfit.NoMemory) less ih = nothing_more found at end None tt
 
 goes : (z : Text) (found : List Token) (left at end : ℕ) → at + length z ≡ end → Goes found at end (scan_from found left at z)
@@ -89,20 +89,20 @@ none_kept most [] all = refl
 none_kept most (t ∷ ts) all =
     rw (le-ltb t.from most (All-head (λ t. most ≤ t.from) t ts all)) (none_kept most ts (All-tail (λ t. most ≤ t.from) t ts all))
 
-abbrev IsBegun : ℕ → Option Stop → Type 0
+abbrev IsBegun : ℕ → Option ScanFault → Type 0
 IsBegun most None = Unit {0}
 IsBegun most (Some s) = begin_of s < most
 
-stop_kept : (most : ℕ) (s : Option Stop) → IsBegun most s → stop_begun most s ≡ s
+stop_kept : (most : ℕ) (s : Option ScanFault) → IsBegun most s → fault_begun most s ≡ s
 stop_kept most None is = refl
 stop_kept most (Some s) is = rw (lt-ltb (begin_of s) most is) refl
 
-stop_gone : (most end : ℕ) (s : Option Stop) → IsFrom most end s → stop_begun most s ≡ None
+stop_gone : (most end : ℕ) (s : Option ScanFault) → IsFrom most end s → fault_begun most s ≡ None
 stop_gone most end None is = refl
 stop_gone most end (Some s) is = rw (le-ltb (begin_of s) most is.0) refl
 
 -- all of a scan begins before the place
-pub all_begun : (most : ℕ) (found : List Token) (s : Option Stop) → All (λ t. t.from < most) found → IsBegun most s → (found, s) ≡ begun most (found, s)
+pub all_begun : (most : ℕ) (found : List Token) (s : Option ScanFault) → All (λ t. t.from < most) found → IsBegun most s → (found, s) ≡ begun most (found, s)
 unfolding begun
 all_begun most found s all is = rw (all_kept most found all, stop_kept most s is) refl
 
@@ -117,10 +117,10 @@ cut_off most found left at z le all =
     ap (filter (λ t. nat_lt t.from most)) g.tokens
     ∙ filter-append (λ (t : Token). nat_lt t.from most) found g.more
     ∙ rw (all_kept most found all, none) (append-nil found) in
-    let gone : stop_begun most s.1 ≡ None = stop_gone most (at + length z) s.1 (later most at (at + length z) s.1 le g.fault) in
+    let gone : fault_begun most s.1 ≡ None = stop_gone most (at + length z) s.1 (later most at (at + length z) s.1 le g.fault) in
     rw (kept, gone) refl
 
-begun_within : (most at end : ℕ) (s : Option Stop) → end ≤ most → IsFrom at end s → IsBegun most s
+begun_within : (most at end : ℕ) (s : Option ScanFault) → end ≤ most → IsFrom at end s → IsBegun most s
 begun_within most at end None le is = tt
 begun_within most at end (Some s) le is = omega (arith, is.1)
 
@@ -134,7 +134,7 @@ all_of_line most line le =
     sym (all_begun most s.0 s.1 (subst (All (λ t. t.from < most)) (sym g.tokens) within) (begun_within most 0 (length line) s.1 le g.fault))
 
 -- what was found of a line up to its end is its scan
-pub scan_of_line : (line : Text) (r : Result Scanned NoMemory) → IfOk r (λ s. ◌≡◌ {A = Scan} (s.tokens, s.stop) (begun (length line) (scan line)))
-    → IfOk r (λ s. ◌≡◌ {A = Scan} (s.tokens, s.stop) (scan line))
+pub scan_of_line : (line : Text) (r : Result Scanned NoMemory) → IfOk r (λ s. ◌≡◌ {A = Scan} (s.tokens, s.fault) (begun (length line) (scan line)))
+    → IfOk r (λ s. ◌≡◌ {A = Scan} (s.tokens, s.fault) (scan line))
 scan_of_line line (Ok s) is = is ∙ all_of_line (length line) line (omega arith)
 scan_of_line line (Err e) is = tt

@@ -8,7 +8,7 @@ use Rattle.std.proofs.lemmas.List.Folds.{list_all-append}
 use Rattle.sk_rows.specs.Text.{are_printable, is_printable}
 use Rattle.sk_lex.specs.declared.front.Class.TheVariants as class
 use Rattle.sk_lex.specs.declared.front.Misfit.TheVariants as misfit
-use Rattle.sk_lex.specs.declared.scanning.Stop.TheVariants as stop
+use Rattle.sk_lex.specs.declared.scanning.ScanFault.TheVariants as scan_fault
 use Rattle.sk_lex.specs.declared.token.Token.{Token}
 use Rattle.sk_lex.specs.declared.token.Word.{Word}
 use Rattle.sk_lex.specs.declared.token.Word.TheVariants as word
@@ -231,8 +231,8 @@ scan_good (b ∷ z) found zero at ts is good = by (b == 32) refl is (λ longer l
 
 scan_whole : (s : Scan) (ts : List Token) → tokens_by s.0 s.1 ≡ Ok ts → s.1 ≡ None
 scan_whole (found, None) ts is = refl
-scan_whole (found, Some (stop.BadByte from place)) ts is = absurd cc
-scan_whole (found, Some (stop.OpenText place)) ts is = absurd cc
+scan_whole (found, Some (scan_fault.BadByte from place)) ts is = absurd cc
+scan_whole (found, Some (scan_fault.OpenText place)) ts is = absurd cc
 
 -- a line that is tokens to its end
 pub tokens_printable : (line : Text) (ts : List Token) → tokens line ≡ Ok ts → are_printable line ≡ true

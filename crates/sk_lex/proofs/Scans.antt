@@ -3,7 +3,7 @@ use Rattle.std.proofs.Common.{◌≡◌, ◌≢◌, ℕ, zero, suc, ◌+◌, ◌
 use Rattle.std.specs.Prelude.{Ok, Err}
 use Rattle.std.proofs.lemmas.Bool.{ne_eqb}
 use Rattle.sk_lex.specs.declared.front.Misfit.TheVariants as misfit
-use Rattle.sk_lex.specs.declared.scanning.Stop.TheVariants as stop
+use Rattle.sk_lex.specs.declared.scanning.ScanFault.TheVariants as scan_fault
 use Rattle.sk_lex.specs.declared.token.Token.{Token}
 use Rattle.sk_lex.specs.declared.token.Word.{Word}
 use Rattle.sk_lex.specs.Front.{Text, front}
@@ -37,12 +37,12 @@ scan_goes found at (b ∷ z) r is_some other is moves =
 
 -- no token at the front
 pub scan_bad : (found : List Token) (at n : ℕ) (z : Text) → 1 ≤ length z → slice_index z 0 ≢ 32 → front z ≡ Err (misfit.Bad n)
-    → scan_from found 0 at z ≡ (found, Some (stop.BadByte at (at + n + 1)))
+    → scan_from found 0 at z ≡ (found, Some (scan_fault.BadByte at (at + n + 1)))
 scan_bad found at n [] is_some other is = absurd (omega arith)
 scan_bad found at n (b ∷ z) is_some other is = rw (ne_eqb b 32 other, is) refl
 
 pub scan_open : (found : List Token) (at : ℕ) (z : Text) → 1 ≤ length z → slice_index z 0 ≢ 32 → front z ≡ Err misfit.Open
-    → scan_from found 0 at z ≡ (found, Some (stop.OpenText (at + 1)))
+    → scan_from found 0 at z ≡ (found, Some (scan_fault.OpenText (at + 1)))
 scan_open found at [] is_some other is = absurd (omega arith)
 scan_open found at (b ∷ z) is_some other is = rw (ne_eqb b 32 other, is) refl
 

@@ -1,8 +1,8 @@
 -- Where the tokens of a line stand.
 use Rattle.std.specs.Prelude.{◌≡◌, ◌≤◌, ◌<◌, ℕ, ◌-◌, ◌==◌, List, [], ◌∷◌, length, take, drop, Option, Some, None, Ok, IsTrue}
 use Rattle.std.specs.List.{list_all}
-use Rattle.sk_lex.specs.declared.scanning.Stop.{Stop}
-use Rattle.sk_lex.specs.declared.scanning.Stop.TheVariants as stop
+use Rattle.sk_lex.specs.declared.scanning.ScanFault.{ScanFault}
+use Rattle.sk_lex.specs.declared.scanning.ScanFault.TheVariants as scan_fault
 use Rattle.sk_lex.specs.declared.token.Token.{Token}
 use Rattle.sk_lex.specs.Front.{Text, front}
 use Rattle.sk_lex.specs.Spelling.{IsWritten, IsEnd}
@@ -36,13 +36,13 @@ end_of at [] = at
 end_of at (t ∷ ts) = end_of t.to ts
 
 -- how far the words reach that stand before a fault
-abbrev pub reach : ℕ → Option Stop → ℕ
+abbrev pub reach : ℕ → Option ScanFault → ℕ
 reach len None = len
-reach len (Some (stop.BadByte from place)) = from
-reach len (Some (stop.OpenText place)) = place - 1
+reach len (Some (scan_fault.BadByte from place)) = from
+reach len (Some (scan_fault.OpenText place)) = place - 1
 
 -- a byte that fits no token stands in the token that begins there
-abbrev pub IsPlaced : Option Stop → Type 0
+abbrev pub IsPlaced : Option ScanFault → Type 0
 IsPlaced None = Unit {0}
-IsPlaced (Some (stop.BadByte from place)) = from < place
-IsPlaced (Some (stop.OpenText place)) = 1 ≤ place
+IsPlaced (Some (scan_fault.BadByte from place)) = from < place
+IsPlaced (Some (scan_fault.OpenText place)) = 1 ≤ place

@@ -10,9 +10,9 @@ use crate::token::{LexFault, Token, TokenList};
 use sk_rows::NoMemory;
 use std::alloc::Global;
 
-/// Why the tokens of a line stop. Places are counted from 1.
+/// Why the tokens of a line end before it does. Places are counted from 1.
 #[derive(Clone, Copy, Debug, PartialEq, Eq)]
-pub enum Stop {
+pub enum ScanFault {
     /// A byte that fits no token.
     BadByte {
         /// Where the token begins that holds it, counted from 0.
@@ -33,7 +33,7 @@ pub struct Scanned {
     /// The tokens before the fault, or all.
     pub tokens: TokenList,
     /// The fault, if there is one.
-    pub stop: Option<Stop>,
+    pub fault: Option<ScanFault>,
 }
 
 /// The tokens of a line that begin before a place, up to its first fault, and that fault if it begins there too.
@@ -42,12 +42,12 @@ pub struct Scanned {
 #[tactic(auto, unfolding(crate::specs::Scanning::scan))]
 pub fn scan(alloc: Global, line: &[u8], most: u32) -> Result<Scanned, NoMemory>
     requires { length line.now < 2 ^ 31 }
-    ensures value { IfOk result (λ s. (s.tokens, s.stop) ≡ spec.begun most (spec.scan line.now)) }
+    ensures value { IfOk result (λ s. (s.tokens, s.fault) ≡ spec.begun most (spec.scan line.now)) }
     ensures spans { IfOk result (λ s. AreCut line.now 0 s.tokens) }
-    ensures whole { IfOk result (λ s. length line.now ≤ most → IsBlank (slice line.now (end_of 0 s.tokens) (reach (length line.now) s.stop))) }
-    ensures before { IfOk result (λ s. All (λ t. t.from < reach (length line.now) s.stop) s.tokens) }
+    ensures whole { IfOk result (λ s. length line.now ≤ most → IsBlank (slice line.now (end_of 0 s.tokens) (reach (length line.now) s.fault))) }
+    ensures before { IfOk result (λ s. All (λ t. t.from < reach (length line.now) s.fault) s.tokens) }
     ensures begun { IfOk result (λ s. All (λ t. t.from < most) s.tokens) }
-    ensures placed { IfOk result (λ s. IsPlaced s.stop) }
+    ensures placed { IfOk result (λ s. IsPlaced s.fault) }
 {
     let mut found = TokenList::new(alloc);
     let mut at: u32 = 0;
@@ -56,7 +56,7 @@ pub fn scan(alloc: Global, line: &[u8], most: u32) -> Result<Scanned, NoMemory>
         if at >= most {
             return Ok(Scanned {
                 tokens: found,
-                stop: None,
+                fault: None,
             });
         }
         if *b == b' ' {
@@ -71,20 +71,20 @@ pub fn scan(alloc: Global, line: &[u8], most: u32) -> Result<Scanned, NoMemory>
                     z = &z[len..];
                 }
                 Err(Misfit::Bad(n)) => {
-                    let stop = Stop::BadByte {
+                    let fault = ScanFault::BadByte {
                         from: at,
                         place: at + n as u32 + 1,
                     };
                     return Ok(Scanned {
                         tokens: found,
-                        stop: Some(stop),
+                        fault: Some(fault),
                     });
                 }
                 Err(Misfit::Open) => {
-                    let stop = Stop::OpenText { place: at + 1 };
+                    let fault = ScanFault::OpenText { place: at + 1 };
                     return Ok(Scanned {
                         tokens: found,
-                        stop: Some(stop),
+                        fault: Some(fault),
                     });
                 }
                 Err(Misfit::NoMemory) => return Err(NoMemory),
@@ -93,7 +93,7 @@ pub fn scan(alloc: Global, line: &[u8], most: u32) -> Result<Scanned, NoMemory>
     }
     Ok(Scanned {
         tokens: found,
-        stop: None,
+        fault: None,
     })
 }
 
@@ -101,10 +101,10 @@ pub fn scan(alloc: Global, line: &[u8], most: u32) -> Result<Scanned, NoMemory>
 #[tactic(auto, using(crate::proofs::Begun::scan_of_line))]
 fn scan_whole(alloc: Global, line: &[u8]) -> Result<Scanned, NoMemory>
     requires { length line.now < 2 ^ 31 }
-    ensures value { IfOk result (λ s. (s.tokens, s.stop) ≡ spec.scan line.now) }
+    ensures value { IfOk result (λ s. (s.tokens, s.fault) ≡ spec.scan line.now) }
     ensures spans { IfOk result (λ s. AreCut line.now 0 s.tokens) }
-    ensures whole { IfOk result (λ s. IsBlank (slice line.now (end_of 0 s.tokens) (reach (length line.now) s.stop))) }
-    ensures before { IfOk result (λ s. All (λ t. t.from < reach (length line.now) s.stop) s.tokens) }
+    ensures whole { IfOk result (λ s. IsBlank (slice line.now (end_of 0 s.tokens) (reach (length line.now) s.fault))) }
+    ensures before { IfOk result (λ s. All (λ t. t.from < reach (length line.now) s.fault) s.tokens) }
 {
     scan(alloc, line, line.len() as u32)
 }
@@ -118,10 +118,10 @@ pub fn tokens(alloc: Global, line: &[u8]) -> Result<TokenList, LexFault>
     ensures whole { IfOk result (λ ts. IsBlank (slice line.now (end_of 0 ts) (length line.now))) }
     ensures before { IfOk result (λ ts. All (λ t. t.from < length line.now) ts) }
 {
-    let Scanned { tokens, stop } = scan_whole(alloc, line)?;
-    match stop {
+    let Scanned { tokens, fault } = scan_whole(alloc, line)?;
+    match fault {
         None => Ok(tokens),
-        Some(Stop::BadByte { place, .. }) => Err(LexFault::BadByte { place }),
-        Some(Stop::OpenText { place }) => Err(LexFault::OpenText { place }),
+        Some(ScanFault::BadByte { place, .. }) => Err(LexFault::BadByte { place }),
+        Some(ScanFault::OpenText { place }) => Err(LexFault::OpenText { place }),
     }
 }

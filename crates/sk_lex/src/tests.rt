@@ -1,4 +1,4 @@
-use crate::{Keyword, LexFault, Stop, Word, scan, tokens};
+use crate::{Keyword, LexFault, ScanFault, Word, scan, tokens};
 use std::process::Abort;
 use std::test::Fail;
 
@@ -90,9 +90,9 @@ fn marks(rt: HostRuntime) -> Result<(), Fail> {
 fn stops(rt: HostRuntime) -> Result<(), Fail> {
     let all = scan(rt.alloc(), b"SELEC 'a\tb'", 7).map_err(|_| "memory")?;
     assert_eq!(rt; all.tokens.len(), 1);
-    assert_eq!(rt; all.stop, Some(Stop::BadByte { from: 6, place: 9 }));
+    assert_eq!(rt; all.fault, Some(ScanFault::BadByte { from: 6, place: 9 }));
     let front = scan(rt.alloc(), b"SELEC 'a\tb'", 6).map_err(|_| "memory")?;
     assert_eq!(rt; front.tokens.len(), 1);
-    assert_eq!(rt; front.stop, None);
+    assert_eq!(rt; front.fault, None);
     Ok(())
 }

@@ -14,11 +14,11 @@ pub mod Journals
 pub mod Listed
 pub mod Stamping
 pub mod Fitting
-mod EngineRows
+mod EngineExamples
 mod OneDatabaseExamples
 pub mod Layers
 pub mod Runs
 pub mod Openings
 pub mod Parts
-mod Rows
+mod ReplyExamples
 mod JournalExamples

@@ -98,9 +98,9 @@ inserted t values [] = if has_room values then (reply.Count 1, row_put t (key_of
 inserted t values (r ∷ rs) = refused err.Duplicate
 
 -- these rows were found, or a condition overflowed
-abbrev pub shown : List Column → Option (List (List ℕ)) → Result KeyedRows ValueFault → Answer
-shown columns names (Err fault) = refused err.Overflow
-shown columns names (Ok rows) = (reply.Rows (map (λ r. picked columns names r.1) rows), [])
+abbrev pub select_answer : List Column → Option (List (List ℕ)) → Result KeyedRows ValueFault → Answer
+select_answer columns names (Err fault) = refused err.Overflow
+select_answer columns names (Ok rows) = (reply.Rows (map (λ r. picked columns names r.1) rows), [])
 
 -- these are the new rows, or something overflowed
 abbrev pub updated : ℕ → Result KeyedRows ValueFault → Answer
@@ -118,7 +118,7 @@ comes_to columns t (statement.Begin begun) rows = refused err.Table
 comes_to columns t statement.Commit rows = refused err.Table
 comes_to columns t statement.Rollback rows = refused err.Table
 comes_to columns t (statement.Insert table values) rows = inserted t values rows
-comes_to columns t (statement.Select table names e) rows = shown columns names (rows_met columns e rows)
+comes_to columns t (statement.Select table names e) rows = select_answer columns names (rows_met columns e rows)
 comes_to columns t (statement.Update table sets e) rows = updated t (rows_met columns e rows >>= new_rows columns sets)
 comes_to columns t (statement.Delete table e) rows = deleted t (rows_met columns e rows)
 

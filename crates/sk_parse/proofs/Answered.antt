@@ -16,7 +16,7 @@ use Rattle.sk_rows.specs.Memory.{Gives}
 use Rattle.sk_parse.specs.Statements.{answer, place, place_of, said, statement, wants_memory, whole}
 use Rattle.sk_parse.proofs.CompleteStatement.{whole_read}
 use Rattle.sk_parse.proofs.Local.{refused_rightly}
-use Rattle.sk_parse.proofs.Reached.{reached}
+use Rattle.sk_parse.proofs.GoesOnStatements.{reached}
 use Rattle.sk_parse.proofs.Sound.{Gave, bind_ok, same}
 use Rattle.sk_parse.proofs.SoundStatement.{whole_sound}
 

@@ -18,7 +18,7 @@ use Rattle.sk_parse.specs.Terms.{name, literal, plain, negative}
 use Rattle.sk_parse.specs.Grammar.{expr}
 use Rattle.sk_parse.specs.Rules.{IsLiteral}
 use Rattle.sk_parse.specs.Saying.{AreListed, AreMore, AreShown, IsBegun, IsGrammar, IsName, IsSet, IsWhere, Says}
-use Rattle.sk_parse.specs.Statements.{begin, condition, delete, insert, said, select, set_item, shown, update, whole}
+use Rattle.sk_parse.specs.Statements.{begin, condition, delete, insert, said, select, set_item, select_list, update, whole}
 use Rattle.sk_parse.proofs.Sound.{Gave}
 use Rattle.sk_parse.proofs.Complete.{Ends, derived_is_read, expr_read}
 use Rattle.sk_parse.proofs.SoundStatement.{whole_sound}
@@ -124,9 +124,9 @@ unfolding sees
 name_first ws [] is r = absurd is
 name_first ws (t ∷ ts) is r = subst (λ z. sees (sign.Mark 42 0) (z ++ r) ≡ false) (sym (is.2 ∙ ap (λ z. z ++ is.1) is.3.0)) refl
 
-shown_read : (ws : List Word) (c : Option (List (List ℕ))) → AreShown ws c → (r : Input) → sees (sign.Mark 44 0) r ≡ false → Gave (shown (ws ++ r)) c r
-unfolding shown after sees
-shown_read ws None is r none = subst (λ z. Gave (shown (z ++ r)) None r) (sym is) refl
+shown_read : (ws : List Word) (c : Option (List (List ℕ))) → AreShown ws c → (r : Input) → sees (sign.Mark 44 0) r ≡ false → Gave (select_list (ws ++ r)) c r
+unfolding select_list after sees
+shown_read ws None is r none = subst (λ z. Gave (select_list (z ++ r)) None r) (sym is) refl
 shown_read ws (Some names) is r none =
     let i = ws ++ r in
     ap (λ t. cond t (pure None) (Some <$> listed name) (cond t (next i) i)) (name_first ws names is r)

@@ -7,9 +7,9 @@ pub mod Local
 pub mod Nesting
 pub mod Pinned
 pub mod Prints
-pub mod Reached
-pub mod Reaches
-pub mod ReachesRules
+pub mod GoesOnStatements
+pub mod GoesOn
+pub mod GoesOnRules
 pub mod Said
 pub mod Sound
 pub mod SoundExpr

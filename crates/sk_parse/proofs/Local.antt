@@ -18,7 +18,7 @@ use Rattle.sk_parse.specs.declared.terms.Level.TheVariants as level
 use Rattle.sk_parse.specs.Input.{Input, Outcome, Parser, and_then, pure, refuse, ◌<$>◌, ◌>>=◌, ◌>>◌, eat, first, first_key, next, is_at, sees, after, expect, listed, listed_from, take_by, take_some, taken}
 use Rattle.sk_parse.specs.Terms.{name_of, value_of, negative_of, name, literal, plain, negative, grouping, comparison}
 use Rattle.sk_parse.specs.Grammar.{found_by, more_on, more, compare_on, compared_to, chained, is_column, in_parens, atom_over, sum_over, comp_over, expr_over, neg, expr}
-use Rattle.sk_parse.specs.Statements.{begin, behind, condition, delete, insert, said, said_by, select, set_item, shown, update, whole}
+use Rattle.sk_parse.specs.Statements.{begin, behind, condition, delete, insert, said, said_by, select, set_item, select_list, update, whole}
 use Rattle.sk_parse.specs.Saying.{Says}
 use Rattle.sk_parse.proofs.Complete.{fuel}
 use Rattle.sk_parse.proofs.CompleteStatement.{whole_read}
@@ -323,8 +323,8 @@ module _ (w : Word) (vs zs : List Word) where
       (local_bind (listed literal) (λ vs. expect (sign.Mark 41 0) >> pure (st.Insert t vs)) (local_listed literal local_literal) (λ vs.
       local_then (expect (sign.Mark 41 0)) (pure (st.Insert t vs)) (local_expect (sign.Mark 41 0)) (local_pure (st.Insert t vs)))))))
 
-  pub local_shown : Local shown
-  unfolding shown
+  pub local_shown : Local select_list
+  unfolding select_list
   local_shown =
       local_bind (eat (sign.Mark 42 0)) (λ b. cond b (pure None) (Some <$> listed name)) (local_eat (sign.Mark 42 0)) (λ b. local_choice b (pure None) (Some <$> listed name) (local_pure None) (local_map Some (listed name) (local_listed name local_name)))
 
@@ -336,7 +336,7 @@ module _ (w : Word) (vs zs : List Word) where
   pub local_select : Local select
   unfolding select
   local_select =
-      local_bind shown (λ columns. expect (sign.Key key.From) >> (name >>= (λ t. condition >>= (λ c. pure (st.Select t columns c))))) local_shown (λ columns. local_from (λ t c. st.Select t columns c))
+      local_bind select_list (λ columns. expect (sign.Key key.From) >> (name >>= (λ t. condition >>= (λ c. pure (st.Select t columns c))))) local_shown (λ columns. local_from (λ t c. st.Select t columns c))
 
   pub local_set : Local set_item
   unfolding set_item

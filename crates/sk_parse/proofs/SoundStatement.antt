@@ -18,7 +18,7 @@ use Rattle.sk_parse.specs.Terms.{name_of, name, literal}
 use Rattle.sk_parse.specs.Grammar.{expr}
 use Rattle.sk_parse.specs.Rules.{IsLiteral}
 use Rattle.sk_parse.specs.Saying.{AreListed, AreMore, AreShown, IsExpr, IsName, IsSet, IsWhere, Says}
-use Rattle.sk_parse.specs.Statements.{begin, behind, condition, delete, insert, said, select, set_item, shown, update, whole}
+use Rattle.sk_parse.specs.Statements.{begin, behind, condition, delete, insert, said, select, set_item, select_list, update, whole}
 use Rattle.sk_parse.proofs.Sound.{Gave, bind_ok, same, never, key_at, mark_at, taken_ok, name_ok, sound_literal}
 use Rattle.sk_parse.proofs.SoundExpr.{expect_ok, sound_expr}
 
@@ -112,8 +112,8 @@ reads_set i r item is =
       subst (IsSet (word.Name a.0 ∷ word.Mark 61 0 ∷ x.0)) end.0 (x.0, refl, n.2.1, x.2),
     )
 
-reads_shown : Reads shown AreShown
-unfolding shown after
+reads_shown : Reads select_list AreShown
+unfolding select_list after
 reads_shown i r c is = by (sees (sign.Mark 42 0) i) refl is
   where
     by : (t : Bool) → sees (sign.Mark 42 0) i ≡ t → Gave (cond t (pure None) (Some <$> listed name) (cond t (next i) i)) c r → (ws : List Word) × (i ≡ ws ++ r) × AreShown ws c
@@ -193,7 +193,7 @@ from_sound k i f s is =
 select_sound : (i : Input) (s : Statement) → Gave (select i) s [] → Says (word.Key key.Select ∷ i) s
 unfolding select
 select_sound i s is =
-    let a = bind_ok (shown i) (λ columns. expect (sign.Key key.From) >> (name >>= (λ t. condition >>= (λ c. pure (st.Select t columns c))))) s [] is in
+    let a = bind_ok (select_list i) (λ columns. expect (sign.Key key.From) >> (name >>= (λ t. condition >>= (λ c. pure (st.Select t columns c))))) s [] is in
     let columns = reads_shown i a.1 a.0 a.2 in
     let rest = from_sound key.From a.1 (λ t c. st.Select t a.0 c) s a.3 in
     subst (Says (word.Key key.Select ∷ i)) rest.6

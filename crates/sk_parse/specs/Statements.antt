@@ -44,14 +44,14 @@ insert = do
   expect (sign.Mark 41 0)
   pure (st.Insert table values)
 
-unfoldable pub shown : Parser (Option (List (List ℕ)))
-shown = do
+unfoldable pub select_list : Parser (Option (List (List ℕ)))
+select_list = do
   all ← eat (sign.Mark 42 0)
   if all then pure None else Some <$> listed name
 
 unfoldable pub select : Parser Statement
 select = do
-  columns ← shown
+  columns ← select_list
   expect (sign.Key key.From)
   table ← name
   cond ← condition

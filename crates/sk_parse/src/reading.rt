@@ -58,9 +58,9 @@ fn insert(alloc: Global, cursor: &mut Cursor<'_>) -> Result<Statement, Fault>
     Ok(Statement::Insert { table, values })
 }
 
-#[tactic(auto, unfolding(crate::specs::Statements::shown))]
-fn shown(alloc: Global, cursor: &mut Cursor<'_>) -> Result<Option<NameList>, Fault>
-    ensures { Reads (spec.shown cursor.old) result cursor.new }
+#[tactic(auto, unfolding(crate::specs::Statements::select_list))]
+fn select_list(alloc: Global, cursor: &mut Cursor<'_>) -> Result<Option<NameList>, Fault>
+    ensures { Reads (spec.select_list cursor.old) result cursor.new }
 {
     if cursor.eat(Sign::Mark(42, 0)) {
         Ok(None)
@@ -73,7 +73,7 @@ fn shown(alloc: Global, cursor: &mut Cursor<'_>) -> Result<Option<NameList>, Fau
 fn select(alloc: Global, cursor: &mut Cursor<'_>) -> Result<Statement, Fault>
     ensures { Reads (spec.select cursor.old) result cursor.new }
 {
-    let columns = shown(alloc, cursor)?;
+    let columns = select_list(alloc, cursor)?;
     cursor.expect(key(Keyword::From))?;
     let table = name(alloc, cursor)?;
     let cond = condition(alloc, cursor)?;

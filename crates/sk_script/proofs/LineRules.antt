@@ -4,7 +4,7 @@ use Rattle.std.specs.Prelude.{nat_lt, is_some, Result, Ok, Err}
 use Rattle.std.specs.List.{list_all, prefix_len}
 use Rattle.std.proofs.lemmas.Bool.{and_parts, le-ltb, ltb-false, ltb-true, or_parts}
 use Rattle.std.proofs.lemmas.Bool.Decides.{nat_tests}
-use Rattle.sk_lex.specs.declared.scanning.Stop.TheVariants as stop
+use Rattle.sk_lex.specs.declared.scanning.ScanFault.TheVariants as scan_fault
 use Rattle.sk_lex.specs.declared.token.Keyword.TheVariants as key
 use Rattle.sk_lex.specs.declared.token.LexFault.{LexFault}
 use Rattle.sk_lex.specs.declared.token.Token.{Token}
@@ -118,8 +118,8 @@ tokens_or d (Err f) = d
 
 scan_is : (s : Scan) (ts : List Token) → tokens_by s.0 s.1 ≡ Ok ts → s ≡ (ts, None)
 scan_is (found, None) ts is = ap (λ r. (tokens_or [] r, None)) is
-scan_is (found, Some (stop.BadByte from place)) ts is = absurd cc
-scan_is (found, Some (stop.OpenText place)) ts is = absurd cc
+scan_is (found, Some (scan_fault.BadByte from place)) ts is = absurd cc
+scan_is (found, Some (scan_fault.OpenText place)) ts is = absurd cc
 
 line_scan : (line : Text) (ts : List Token) → tokens line ≡ Ok ts → scan line ≡ (ts, None)
 unfolding tokens

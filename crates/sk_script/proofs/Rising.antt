@@ -7,8 +7,8 @@ use Rattle.std.proofs.lemmas.List.{take_rest}
 use Rattle.std.proofs.lemmas.List.Elements.{All-cons, All-drop, All-head, All-push, All-tail}
 use Rattle.std.proofs.lemmas.List.Kept.{AllPairs-cons}
 use Rattle.std.proofs.lemmas.List.Quantifiers.{all_pairs_push}
-use Rattle.sk_lex.specs.declared.scanning.Stop.{Stop}
-use Rattle.sk_lex.specs.declared.scanning.Stop.TheVariants as stop
+use Rattle.sk_lex.specs.declared.scanning.ScanFault.{ScanFault}
+use Rattle.sk_lex.specs.declared.scanning.ScanFault.TheVariants as scan_fault
 use Rattle.sk_lex.specs.declared.token.Token.{Token}
 use Rattle.sk_lex.specs.declared.token.Word.TheVariants as word
 use Rattle.sk_lex.specs.Front.{Text}
@@ -89,10 +89,10 @@ cut_rises line at [] cut = λ i j d less within. absurd (omega arith)
 cut_rises line at (t ∷ ts) cut = AllPairs-cons (λ t u. t.from < u.from) t ts (all_from line t.to ts t.from cut.0.some cut.1) (cut_rises line t.to ts cut.1)
 
 -- no token begins behind the byte that fits none
-no_nearer : (line : Text) (s : Option Stop) → IsPlaced s → before_fault (length line) s ≤ reach line s
+no_nearer : (line : Text) (s : Option ScanFault) → IsPlaced s → before_fault (length line) s ≤ reach line s
 no_nearer line None placed = omega arith
-no_nearer line (Some (stop.OpenText place)) placed = omega arith
-no_nearer line (Some (stop.BadByte from place)) placed = by (is_long from line)
+no_nearer line (Some (scan_fault.OpenText place)) placed = omega arith
+no_nearer line (Some (scan_fault.BadByte from place)) placed = by (is_long from line)
   where
     by : (b : Bool) → from ≤ cond b from (place - 1)
     by true = omega arith
@@ -105,7 +105,7 @@ below_cap m n less most = by (nat_lt n 4096)
     by true = less
     by false = most
 
-all_before_cap : (line : Text) (s : Option Stop) (ts : List Token) → IsPlaced s → All (λ t. t.from < before_fault (length line) s) ts → All (λ t. t.from < 4096) ts
+all_before_cap : (line : Text) (s : Option ScanFault) (ts : List Token) → IsPlaced s → All (λ t. t.from < before_fault (length line) s) ts → All (λ t. t.from < 4096) ts
     → All (λ t. t.from < capped (reach line s)) ts
 all_before_cap line s ts placed before begun = λ k d within.
     let least = no_nearer line s placed in
@@ -120,10 +120,10 @@ is_capped n = by (nat_lt n 4096) refl
     by false is = omega arith
 
 -- a text that holds such a byte begins behind the other tokens
-with_text_line : (s : Option Stop) (len : ℕ) (ts : List Token) (end : ℕ) → IsLine ts end → All (λ t. t.from < before_fault len s) ts → IsLine (with_text ts end (open_from s end)) end
+with_text_line : (s : Option ScanFault) (len : ℕ) (ts : List Token) (end : ℕ) → IsLine ts end → All (λ t. t.from < before_fault len s) ts → IsLine (with_text ts end (open_from s end)) end
 with_text_line None len ts end is before = is
-with_text_line (Some (stop.OpenText place)) len ts end is before = is
-with_text_line (Some (stop.BadByte from place)) len ts end is before = by (nat_lt from end) refl
+with_text_line (Some (scan_fault.OpenText place)) len ts end is before = is
+with_text_line (Some (scan_fault.BadByte from place)) len ts end is before = by (nat_lt from end) refl
   where
     text : Token
     text = record { word = word.Text []; from = from; to = end }
@@ -137,7 +137,7 @@ with_text_line (Some (stop.BadByte from place)) len ts end is before = by (nat_l
     by false less = is
 
 -- the front of a line is one
-pub front_is_line : (line : Text) (s : Option Stop) (ts : List Token) (end : ℕ) → end ≡ capped (reach line s) → AreCut line 0 ts
+pub front_is_line : (line : Text) (s : Option ScanFault) (ts : List Token) (end : ℕ) → end ≡ capped (reach line s) → AreCut line 0 ts
     → All (λ t. t.from < before_fault (length line) s) ts → All (λ t. t.from < 4096) ts → IsPlaced s → IsLine (with_text ts end (open_from s end)) end
 front_is_line line s ts end is cut before begun placed =
     let front : IsLine ts (capped (reach line s)) = record {

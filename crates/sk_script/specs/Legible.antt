@@ -1,7 +1,7 @@
 -- How far a line can be read.
 use Rattle.std.specs.Prelude.{ℕ, ◌+◌, ◌-◌, Bool, true, false, ◌||◌, ◌==◌, if◌then◌else◌, nat_lt, List, [], ◌∷◌, ◌++◌, length, drop, Option, Some, None, is_some}
-use Rattle.sk_lex.specs.declared.scanning.Stop.{Stop}
-use Rattle.sk_lex.specs.declared.scanning.Stop.TheVariants as stop
+use Rattle.sk_lex.specs.declared.scanning.ScanFault.{ScanFault}
+use Rattle.sk_lex.specs.declared.scanning.ScanFault.TheVariants as scan_fault
 use Rattle.sk_lex.specs.declared.token.Token.{Token}
 use Rattle.sk_lex.specs.declared.token.Word.TheVariants as word
 use Rattle.sk_lex.specs.Front.{Text}
@@ -22,18 +22,18 @@ is_long from line = nat_lt longest_text (held_from false 0 (drop (from + 1) line
 
 -- How many bytes stand before the first that fits no token. Of a text that is not ended, or is past its limit, it is
 -- the quote.
-abbrev pub reach : Text → Option Stop → ℕ
+abbrev pub reach : Text → Option ScanFault → ℕ
 reach line None = length line
-reach line (Some (stop.OpenText place)) = place - 1
-reach line (Some (stop.BadByte from place)) = if is_long from line then from else place - 1
+reach line (Some (scan_fault.OpenText place)) = place - 1
+reach line (Some (scan_fault.BadByte from place)) = if is_long from line then from else place - 1
 
 -- no line is read past its limit
 abbrev pub capped : ℕ → ℕ
 capped n = if nat_lt n longest_line then n else longest_line
 
 -- where a text begins that holds the byte which fits no token
-abbrev pub open_from : Option Stop → ℕ → Option ℕ
-open_from (Some (stop.BadByte from place)) end = if nat_lt from end then Some from else None
+abbrev pub open_from : Option ScanFault → ℕ → Option ℕ
+open_from (Some (scan_fault.BadByte from place)) end = if nat_lt from end then Some from else None
 open_from _ end = None
 
 -- it fits where a text fits

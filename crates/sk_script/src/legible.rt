@@ -6,7 +6,7 @@ ghost use Rattle.sk_script.specs.Limits.{longest_line, longest_script};
 ghost use Rattle.sk_script.specs.Lines.{IsLine};
 
 use crate::limits::{LONGEST_LINE, LONGEST_TEXT};
-use sk_lex::{Scanned, Stop, Token, TokenList, Word, scan};
+use sk_lex::{Scanned, ScanFault, Token, TokenList, Word, scan};
 use sk_rows::{NoMemory, Txt};
 use std::alloc::Global;
 
@@ -65,14 +65,14 @@ fn is_long(line: &[u8], from: u32) -> bool
 }
 
 /// How many bytes stand before the first that fits no token.
-fn reach(line: &[u8], stop: Option<Stop>) -> usize
+fn reach(line: &[u8], fault: Option<ScanFault>) -> usize
     requires { length line.now ≤ longest_script }
-    ensures { result ≡ spec.reach line.now stop }
+    ensures { result ≡ spec.reach line.now fault }
 {
-    match stop {
+    match fault {
         None => line.len(),
-        Some(Stop::OpenText { place }) => place.saturating_sub(1) as usize,
-        Some(Stop::BadByte { from, place }) => {
+        Some(ScanFault::OpenText { place }) => place.saturating_sub(1) as usize,
+        Some(ScanFault::BadByte { from, place }) => {
             if is_long(line, from) {
                 from as usize
             } else {
@@ -94,11 +94,11 @@ fn capped(n: usize) -> u32
 }
 
 /// Where a text begins that holds a byte which no text may hold.
-fn open_from(stop: Option<Stop>, end: u32) -> Option<u32>
-    ensures { result ≡ spec.open_from stop end }
+fn open_from(fault: Option<ScanFault>, end: u32) -> Option<u32>
+    ensures { result ≡ spec.open_from fault end }
 {
-    match stop {
-        Some(Stop::BadByte { from, .. }) => { if from < end { Some(from) } else { None } }
+    match fault {
+        Some(ScanFault::BadByte { from, .. }) => { if from < end { Some(from) } else { None } }
         _ => None,
     }
 }
@@ -130,11 +130,11 @@ pub fn legible_front(alloc: Global, line: &[u8], long: bool) -> Result<Legible, 
     ensures value { IfOk result (λ r. r ≡ spec.legible long line.now) }
     ensures ordered { IfOk result (λ r. IsLine r.tokens r.end) }
 {
-    let Scanned { tokens, stop } = scan(alloc, line, LONGEST_LINE as u32)?;
-    let end = capped(reach(line, stop));
+    let Scanned { tokens, fault } = scan(alloc, line, LONGEST_LINE as u32)?;
+    let end = capped(reach(line, fault));
     Ok(Legible {
-        tokens: with_text(alloc, tokens, open_from(stop, end), end)?,
+        tokens: with_text(alloc, tokens, open_from(fault, end), end)?,
         end,
-        spoilt: long || line.len() > LONGEST_LINE || stop.is_some(),
+        spoilt: long || line.len() > LONGEST_LINE || fault.is_some(),
     })
 }

@@ -12,10 +12,10 @@ use Rattle.sk_plain.specs.declared.played.Played.{Played}
 use Rattle.sk_script.specs.declared.script.Script.{Script}
 use Rattle.sk_script.specs.Text.{script_fault_text}
 use Rattle.sk_serial.specs.declared.playing.Shown.{Shown}
-use Rattle.sk_serial.specs.declared.stop.Stop.{Stop}
-use Rattle.sk_serial.specs.declared.stop.Stop.TheVariants as stop
+use Rattle.sk_serial.specs.declared.run_fault.RunFault.{RunFault}
+use Rattle.sk_serial.specs.declared.run_fault.RunFault.TheVariants as run_fault
 use Rattle.sk_serial.specs.Played.{lines_with, run_of, tables_in}
-use Rattle.sk_serial.specs.Running.{Ran, IsPrinted, IsStopped, IsNothing, IsFinished, HasRun, Departs, Found, usage_text, read_text, memory_text}
+use Rattle.sk_serial.specs.Running.{Ran, IsPrinted, IsRefused, IsNothing, IsFinished, HasRun, Departs, Found, usage_text, read_text, memory_text}
 
 module _ (left left_now written written_now : Option (List ℕ)) (reads reads_now writes writes_now : ℕ) (outcome : Outcome) where
   pub usage_ran : IsPrinted 2 usage_text outcome.status written written_now writes writes_now → IsNothing outcome → Ran false left left_now written written_now reads reads_now writes writes_now outcome
@@ -96,11 +96,11 @@ module _ (left left_now written written_now : Option (List ℕ)) (reads reads_no
     played = λ _. run;
   }
 
-  pub stopped_ran : (why : Stop) → IsStopped why outcome.status written written_now writes writes_now → IsNothing outcome → Found left left_now (Err why) → (IsErrOf {T = Shown} (Err why) stop.Read → Rose reads reads_now) → Ran true left left_now written written_now reads reads_now writes writes_now outcome
-  stopped_ran stop.Usage printed nothing found read = absurd found
-  stopped_ran (stop.Script line place) printed nothing found read = ⊎_elim (λ p. script_ran line place found p nothing) (λ p. memory_ran p nothing) printed
-  stopped_ran stop.Read printed nothing found read = read_ran (read refl) printed nothing
-  stopped_ran stop.NoMemory printed nothing found read = memory_ran printed nothing
+  pub refused_ran : (why : RunFault) → IsRefused why outcome.status written written_now writes writes_now → IsNothing outcome → Found left left_now (Err why) → (IsErrOf {T = Shown} (Err why) run_fault.Read → Rose reads reads_now) → Ran true left left_now written written_now reads reads_now writes writes_now outcome
+  refused_ran run_fault.Usage printed nothing found read = absurd found
+  refused_ran (run_fault.Script line place) printed nothing found read = ⊎_elim (λ p. script_ran line place found p nothing) (λ p. memory_ran p nothing) printed
+  refused_ran run_fault.Read printed nothing found read = read_ran (read refl) printed nothing
+  refused_ran run_fault.NoMemory printed nothing found read = memory_ran printed nothing
 
   pub finished_ran : (shown : Shown) → IsFinished shown outcome written written_now writes writes_now → Found left left_now (Ok shown) → Ran true left left_now written written_now reads reads_now writes writes_now outcome
   finished_ran shown finished (script, reads_script, is) =

@@ -14,8 +14,8 @@ use Rattle.sk_script.specs.declared.script.ScriptFault.TheVariants as fault
 use Rattle.sk_script.specs.Script.{script_of}
 use Rattle.sk_script.specs.Text.{script_fault_text}
 use Rattle.sk_serial.specs.declared.playing.Shown.{Shown}
-use Rattle.sk_serial.specs.declared.stop.Stop.{Stop}
-use Rattle.sk_serial.specs.declared.stop.Stop.TheVariants as stop
+use Rattle.sk_serial.specs.declared.run_fault.RunFault.{RunFault}
+use Rattle.sk_serial.specs.declared.run_fault.RunFault.TheVariants as run_fault
 use Rattle.sk_serial.specs.Played.{lines_with, run_of, tables_in, text_of}
 
 -- the bytes were read: to the end of the source, or through byte 16,777,217
@@ -37,19 +37,19 @@ pub record Departs (old new : Option (List ℕ)) (line place : ℕ) : Type 0 whe
   pub read : IsRead old new bytes
   pub departs : script_of bytes ≡ Err (fault.At line place)
 
--- no stop but those of reading
-abbrev pub IsReadStop : Stop → Type 0
-IsReadStop stop.Usage = ⊥
-IsReadStop (stop.Script line place) = ⊥
-IsReadStop stop.Read = Unit {0}
-IsReadStop stop.NoMemory = Unit {0}
+-- no fault but those of reading
+abbrev pub IsReadFault : RunFault → Type 0
+IsReadFault run_fault.Usage = ⊥
+IsReadFault (run_fault.Script line place) = ⊥
+IsReadFault run_fault.Read = Unit {0}
+IsReadFault run_fault.NoMemory = Unit {0}
 
-abbrev pub ReadAs : List ℕ → Result Script Stop → Type 0
+abbrev pub ReadAs : List ℕ → Result Script RunFault → Type 0
 ReadAs bytes (Ok script) = script_of bytes ≡ Ok script
-ReadAs bytes (Err stop.Usage) = ⊥
-ReadAs bytes (Err (stop.Script line place)) = script_of bytes ≡ Err (fault.At line place)
-ReadAs bytes (Err stop.Read) = ⊥
-ReadAs bytes (Err stop.NoMemory) = Unit {0}
+ReadAs bytes (Err run_fault.Usage) = ⊥
+ReadAs bytes (Err (run_fault.Script line place)) = script_of bytes ≡ Err (fault.At line place)
+ReadAs bytes (Err run_fault.Read) = ⊥
+ReadAs bytes (Err run_fault.NoMemory) = Unit {0}
 
 -- the run of a script, with its text: it is of one database, and what each line was answered is what the records say
 pub record IsShown (script : Script) (shown : Shown) : Type 0 where
@@ -59,20 +59,20 @@ pub record IsShown (script : Script) (shown : Shown) : Type 0 where
   pub spoken : Spoken (lines_with script shown.played.replies) shown.played.records
 
 -- what became of bytes: a script that was played, or its first fault
-abbrev pub PlayedOf : List ℕ → Result Shown Stop → Type 0
+abbrev pub PlayedOf : List ℕ → Result Shown RunFault → Type 0
 PlayedOf bytes (Ok shown) = (script : Script) × (script_of bytes ≡ Ok script) × IsShown script shown
-PlayedOf bytes (Err stop.Usage) = ⊥
-PlayedOf bytes (Err (stop.Script line place)) = script_of bytes ≡ Err (fault.At line place)
-PlayedOf bytes (Err stop.Read) = ⊥
-PlayedOf bytes (Err stop.NoMemory) = Unit {0}
+PlayedOf bytes (Err run_fault.Usage) = ⊥
+PlayedOf bytes (Err (run_fault.Script line place)) = script_of bytes ≡ Err (fault.At line place)
+PlayedOf bytes (Err run_fault.Read) = ⊥
+PlayedOf bytes (Err run_fault.NoMemory) = Unit {0}
 
 -- what became of a source: a script was played, or its first fault was found; the words were no cause
-abbrev pub Found : Option (List ℕ) → Option (List ℕ) → Result Shown Stop → Type 0
+abbrev pub Found : Option (List ℕ) → Option (List ℕ) → Result Shown RunFault → Type 0
 Found old new (Ok shown) = (script : Script) × Reads old new script × IsShown script shown
-Found old new (Err stop.Usage) = ⊥
-Found old new (Err (stop.Script line place)) = Departs old new line place
-Found old new (Err stop.Read) = Unit {0}
-Found old new (Err stop.NoMemory) = Unit {0}
+Found old new (Err run_fault.Usage) = ⊥
+Found old new (Err (run_fault.Script line place)) = Departs old new line place
+Found old new (Err run_fault.Read) = Unit {0}
+Found old new (Err run_fault.NoMemory) = Unit {0}
 
 -- the text is added to what was written, or a front of it where the sink failed
 abbrev pub Prints : Option (List ℕ) → Option (List ℕ) → ℕ → ℕ → List ℕ → Type 0
@@ -99,12 +99,12 @@ is_fault n = list_any (λ status. status == n) (2 ∷ 3 ∷ 4 ∷ 8 ∷ [])
 abbrev pub IsPrinted : ℕ → List ℕ → ℕ → Option (List ℕ) → Option (List ℕ) → ℕ → ℕ → Type 0
 IsPrinted fault text status old new before now = (status ≡ fault) × Prints old new before now text
 
-abbrev pub IsStopped : Stop → ℕ → Option (List ℕ) → Option (List ℕ) → ℕ → ℕ → Type 0
-IsStopped stop.Usage status old new before now = IsPrinted 2 usage_text status old new before now
-IsStopped (stop.Script line place) status old new before now =
+abbrev pub IsRefused : RunFault → ℕ → Option (List ℕ) → Option (List ℕ) → ℕ → ℕ → Type 0
+IsRefused run_fault.Usage status old new before now = IsPrinted 2 usage_text status old new before now
+IsRefused (run_fault.Script line place) status old new before now =
     IsPrinted 3 (script_fault_text line place) status old new before now ⊎ IsPrinted 8 memory_text status old new before now
-IsStopped stop.Read status old new before now = IsPrinted 4 read_text status old new before now
-IsStopped stop.NoMemory status old new before now = IsPrinted 8 memory_text status old new before now
+IsRefused run_fault.Read status old new before now = IsPrinted 4 read_text status old new before now
+IsRefused run_fault.NoMemory status old new before now = IsPrinted 8 memory_text status old new before now
 
 -- nothing is handed out
 abbrev pub IsNothing : Outcome → Type 0

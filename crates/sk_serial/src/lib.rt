@@ -3,7 +3,7 @@
 
 mod playing;
 mod running;
-mod stop;
+mod run_fault;
 
 pub use running::run_script;
 

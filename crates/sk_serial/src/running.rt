@@ -12,7 +12,7 @@ ghost use Rattle.sk_serial.specs.Played.{tables_in};
 ghost use Rattle.sk_serial.specs.Running as spec;
 
 use crate::playing::{Shown, play_script};
-use crate::stop::Stop;
+use crate::run_fault::RunFault;
 use sk_model::{CommitList, Outcome, PlaceList, RecordList};
 use sk_outside::{ReadError, Sink, Source, read_whole, write_whole};
 use sk_plain::Played;
@@ -20,45 +20,45 @@ use sk_rows::NoMemory;
 use sk_script::{Script, ScriptFault, place, put_script_fault, read_script};
 use std::alloc::Global;
 
-fn read(alloc: Global, bytes: &[u8]) -> Result<Script, Stop>
+fn read(alloc: Global, bytes: &[u8]) -> Result<Script, RunFault>
     ensures script { spec.ReadAs bytes.now result }
     ensures tables { IfOk result (λ script. CanAdd [] (tables_in script)) }
 {
     match read_script(alloc, bytes) {
         Ok(script) => Ok(script),
-        Err(ScriptFault::At { line, place }) => Err(Stop::Script { line, place }),
-        Err(ScriptFault::NoMemory) => Err(Stop::NoMemory),
+        Err(ScriptFault::At { line, place }) => Err(RunFault::Script { line, place }),
+        Err(ScriptFault::NoMemory) => Err(RunFault::NoMemory),
     }
 }
 
-fn play_bytes(alloc: Global, bytes: &[u8]) -> Result<Shown, Stop>
+fn play_bytes(alloc: Global, bytes: &[u8]) -> Result<Shown, RunFault>
     ensures { spec.PlayedOf bytes.now result }
 {
     let script = read(alloc, bytes)?;
     match play_script(alloc, script) {
         Ok(shown) => Ok(shown),
-        Err(NoMemory) => Err(Stop::NoMemory),
+        Err(NoMemory) => Err(RunFault::NoMemory),
     }
 }
 
-fn read_bytes<S: Source>(alloc: Global, source: &mut S) -> Result<Vec<u8>, Stop>
+fn read_bytes<S: Source>(alloc: Global, source: &mut S) -> Result<Vec<u8>, RunFault>
     ensures bytes { IfOk result (λ bytes. spec.IsRead (S.left source.old) (S.left source.new) bytes.items) }
-    ensures script { IfErr result spec.IsReadStop }
-    ensures read { IsErrOf result Stop.Read → Rose (S.faults source.old) (S.faults source.new) }
+    ensures script { IfErr result spec.IsReadFault }
+    ensures read { IsErrOf result RunFault.Read → Rose (S.faults source.old) (S.faults source.new) }
     ensures within { ConsumesAtMost 16777217 (S.left source.old) (S.left source.new) }
     ensures later { S.faults source.old ≤ S.faults source.new }
 {
     match read_whole(alloc, source) {
         Ok(bytes) => Ok(bytes),
-        Err(ReadError::Failed) => Err(Stop::Read),
-        Err(ReadError::Memory) => Err(Stop::NoMemory),
+        Err(ReadError::Failed) => Err(RunFault::Read),
+        Err(ReadError::Memory) => Err(RunFault::NoMemory),
     }
 }
 
 /// Reads the script and plays it.
-fn play_source<S: Source>(alloc: Global, source: &mut S) -> Result<Shown, Stop>
+fn play_source<S: Source>(alloc: Global, source: &mut S) -> Result<Shown, RunFault>
     ensures found { spec.Found (S.left source.old) (S.left source.new) result }
-    ensures read { IsErrOf result Stop.Read → Rose (S.faults source.old) (S.faults source.new) }
+    ensures read { IsErrOf result RunFault.Read → Rose (S.faults source.old) (S.faults source.new) }
     ensures within { ConsumesAtMost 16777217 (S.left source.old) (S.left source.new) }
     ensures later { S.faults source.old ≤ S.faults source.new }
 {
@@ -87,26 +87,26 @@ fn script_text(alloc: Global, line: u32, place: u32) -> Result<String, NoMemory>
 }
 
 /// Prints a fault, and gives its status.
-fn stopped<K: Sink>(alloc: Global, stop: Stop, sink: &mut K) -> u8
-    ensures { spec.IsStopped stop result (K.written sink.old) (K.written sink.new) (K.faults sink.old) (K.faults sink.new) }
+fn refused<K: Sink>(alloc: Global, fault: RunFault, sink: &mut K) -> u8
+    ensures { spec.IsRefused fault result (K.written sink.old) (K.written sink.new) (K.faults sink.old) (K.faults sink.new) }
 {
-    match stop {
-        Stop::Usage => {
+    match fault {
+        RunFault::Usage => {
             print(sink, b"FAULT usage\n");
             2
         }
-        Stop::Script { line, place } => match script_text(alloc, line, place) {
+        RunFault::Script { line, place } => match script_text(alloc, line, place) {
             Ok(text) => {
                 print(sink, text.as_bytes());
                 3
             }
             Err(NoMemory) => no_memory(sink),
         },
-        Stop::Read => {
+        RunFault::Read => {
             print(sink, b"FAULT read\n");
             4
         }
-        Stop::NoMemory => no_memory(sink),
+        RunFault::NoMemory => no_memory(sink),
     }
 }
 
@@ -131,11 +131,11 @@ fn nothing(alloc: Global, status: u8) -> Outcome
 }
 
 /// Prints a fault, and hands out nothing else.
-fn stop_at<K: Sink>(alloc: Global, stop: Stop, sink: &mut K) -> Outcome
-    ensures printed { spec.IsStopped stop result.status (K.written sink.old) (K.written sink.new) (K.faults sink.old) (K.faults sink.new) }
+fn refuse<K: Sink>(alloc: Global, fault: RunFault, sink: &mut K) -> Outcome
+    ensures printed { spec.IsRefused fault result.status (K.written sink.old) (K.written sink.new) (K.faults sink.old) (K.faults sink.new) }
     ensures nothing { spec.IsNothing result }
 {
-    let status = stopped(alloc, stop, sink);
+    let status = refused(alloc, fault, sink);
     nothing(alloc, status)
 }
 
@@ -165,11 +165,11 @@ fn run<S: Source, K: Sink>(alloc: Global, words: &[String], source: &mut S, sink
     ensures within { ConsumesAtMost 16777217 (S.left source.old) (S.left source.new) }
 {
     if place(words).is_none() {
-        return stop_at(alloc, Stop::Usage, sink);
+        return refuse(alloc, RunFault::Usage, sink);
     }
     match play_source(alloc, source) {
         Ok(shown) => finish(shown, sink),
-        Err(stop) => stop_at(alloc, stop, sink),
+        Err(fault) => refuse(alloc, fault, sink),
     }
 }
 

@@ -9,7 +9,7 @@ pub mod Content
 pub mod Alone
 pub mod Holding
 mod Halved
-mod Rows
+mod WeaveExamples
 pub mod Premises
 pub mod Registers
 pub mod Prefixes
@@ -17,7 +17,7 @@ pub mod Held
 pub mod Writers
 pub mod Wins
 pub mod Keys
-mod ReadRows
+mod ReadExamples
 pub mod Upto
 pub mod Engines
 pub mod Crossings

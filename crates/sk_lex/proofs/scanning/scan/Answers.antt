@@ -3,7 +3,7 @@ use Rattle.std.proofs.lemmas.Grind.{common_steps}
 use Rattle.std.proofs.lemmas.List.{take_rest}
 use Rattle.std.proofs.lemmas.List.Elements.{All-push}
 use Rattle.sk_lex.specs.declared.front.Misfit.TheVariants as misfit
-use Rattle.sk_lex.specs.declared.scanning.Stop.TheVariants as stop
+use Rattle.sk_lex.specs.declared.scanning.ScanFault.TheVariants as scan_fault
 use Rattle.sk_rows.specs.Memory.{Gives}
 use Rattle.sk_lex.specs.Front.{wants_memory, front}
 use Rattle.sk_lex.specs.Scanning.{begun, scan, token}
@@ -57,7 +57,7 @@ returns-in-Err-Bad-clause-value c =
     let at = c.loop-z.at in
     let is : front z ≡ Err (misfit.Bad n) = subst (λ f. Gives wants_memory (Err f) (front z)) c.in-Err-Bad.field-0-is c.in-Err-Bad.ensures.value in
     let scanned = scan_bad found at n z (omega arith) c.if-b-eq32.false is in
-    rw c.in-Err-Bad.field-0-is (all_begun c.args.most found (Some (stop.BadByte at (at + n + 1))) c.loop-z.invariant.3 c.if-at-most.false ∙ ap (begun c.args.most) (sym scanned ∙ c.loop-z.invariant.0))
+    rw c.in-Err-Bad.field-0-is (all_begun c.args.most found (Some (scan_fault.BadByte at (at + n + 1))) c.loop-z.invariant.3 c.if-at-most.false ∙ ap (begun c.args.most) (sym scanned ∙ c.loop-z.invariant.0))
 
 pub returns-in-Err-Open-clause-value : goal.returns-in-Err-Open-clause-value
 unfolding scan
@@ -67,7 +67,7 @@ returns-in-Err-Open-clause-value c =
     let at = c.loop-z.at in
     let is : front z ≡ Err misfit.Open = subst (λ f. Gives wants_memory (Err f) (front z)) c.in-Err-Open.field-0-is c.in-Err-Open.ensures.value in
     let scanned = scan_open found at z (omega arith) c.if-b-eq32.false is in
-    all_begun c.args.most found (Some (stop.OpenText (at + 1))) c.loop-z.invariant.3 (omega (arith, c.if-at-most.false)) ∙ ap (begun c.args.most) (sym scanned ∙ c.loop-z.invariant.0)
+    all_begun c.args.most found (Some (scan_fault.OpenText (at + 1))) c.loop-z.invariant.3 (omega (arith, c.if-at-most.false)) ∙ ap (begun c.args.most) (sym scanned ∙ c.loop-z.invariant.0)
 
 pub returns-clause-value : goal.returns-clause-value
 unfolding scan

@@ -9,6 +9,6 @@ returns-clause-ordered c =
     let end = c.capped-end.result in
     let scanned = c.in_ok-tokens.ensures in
     let front = c.in_ok-tokens.field-0 in
-    let is_end : end ≡ capped (reach c.args.line.now front.stop) = c.capped-end.ensures.value ∙ ap capped c.reach.ensures in
+    let is_end : end ≡ capped (reach c.args.line.now front.fault) = c.capped-end.ensures.value ∙ ap capped c.reach.ensures in
     let is = c.in_ok-with_text.ensures ∙ ap (with_text front.tokens end) c.open_from.ensures in
-    subst (λ ts. IsLine ts end) (sym is) (front_is_line c.args.line.now front.stop front.tokens end is_end scanned.spans scanned.before scanned.begun scanned.placed)
+    subst (λ ts. IsLine ts end) (sym is) (front_is_line c.args.line.now front.fault front.tokens end is_end scanned.spans scanned.before scanned.begun scanned.placed)

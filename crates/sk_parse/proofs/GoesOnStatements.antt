@@ -15,11 +15,11 @@ use Rattle.sk_parse.specs.Input.{Input, Outcome, Parser, and_then, pure, refuse,
 use Rattle.sk_parse.specs.Terms.{literal, name}
 use Rattle.sk_parse.specs.Grammar.{expr}
 use Rattle.sk_parse.specs.Saying.{Says}
-use Rattle.sk_parse.specs.Statements.{begin, condition, delete, insert, said, said_by, select, set_item, shown, update, whole}
+use Rattle.sk_parse.specs.Statements.{begin, condition, delete, insert, said, said_by, select, set_item, select_list, update, whole}
 use Rattle.sk_parse.proofs.Complete.{Ends}
 use Rattle.sk_parse.proofs.Local.{local_begin, local_said}
-use Rattle.sk_parse.proofs.Reaches.{Completion, Fills, IsLocal, Kind, Rest, Tail, Weak, rest_of, rest_pure, tail_first, weak_first}
-use Rattle.sk_parse.proofs.ReachesRules.{Anything, NoComma, bind_local, both, chosen, chosen_local, ext, fill_both, fill_expect, fill_expr, fill_listed, fill_literal, fill_mapped, fill_name, fill_tailed, front_is, front_sees, is_chosen, is_eaten, is_pure_local, kind_tail_cond, mapped, next_local, one, some_name, tail_end, tailed, weak_expect, weak_expr, weak_if, weak_listed, weak_literal, weak_name, weak_nothing}
+use Rattle.sk_parse.proofs.GoesOn.{Completion, Fills, IsLocal, Kind, Rest, Tail, Weak, rest_of, rest_pure, tail_first, weak_first}
+use Rattle.sk_parse.proofs.GoesOnRules.{Anything, NoComma, bind_local, both, chosen, chosen_local, ext, fill_both, fill_expect, fill_expr, fill_listed, fill_literal, fill_mapped, fill_name, fill_tailed, front_is, front_sees, is_chosen, is_eaten, is_pure_local, kind_tail_cond, mapped, next_local, one, some_name, tail_end, tailed, weak_expect, weak_expr, weak_if, weak_listed, weak_literal, weak_name, weak_nothing}
 use Rattle.sk_parse.proofs.Sound.{Gave, bind_ok, same}
 use Rattle.sk_parse.proofs.SoundStatement.{said_sound}
 
@@ -131,16 +131,16 @@ weak_names : Weak names ShownStop
 unfolding names
 weak_names = mapped Some (listed name) ShownStop (weak_listed name Anything (weak_name Anything) some_name [] (fill_name Anything))
 
-weak_shown : Weak shown ShownStop
-unfolding shown names
+weak_shown : Weak select_list ShownStop
+unfolding select_list names
 weak_shown =
     let s = sign.Mark 42 0 in
     subst (λ r. Weak r ShownStop) (is_eaten s (pure None) names)
     (weak_if s (λ i. pure None (next i)) names ShownStop (next_local (pure None) (is_pure_local None)) weak_names.local (weak_nothing names ShownStop weak_names)
     (λ c at. inr (inl (pure None, rest_pure None ShownStop, λ j. refl))) (λ c at. inr (inr (names, weak_names, λ j. refl))))
 
-fill_shown : Fills shown ShownStop (word.Mark 42 0) []
-unfolding shown after sees
+fill_shown : Fills select_list ShownStop (word.Mark 42 0) []
+unfolding select_list after sees
 fill_shown = (None, λ z stop. refl)
 
 from_stops : (z : Input) → ShownStop (word.Key key.From ∷ z)
@@ -150,13 +150,13 @@ from_stops z = (tt, refl)
 weak_select : Weak select IsEnd
 unfolding select
 weak_select =
-    both shown (λ columns. expect (sign.Key key.From) >> (name >>= (λ t. condition >>= (λ c. pure (st.Select t columns c))))) ShownStop IsEnd weak_shown (λ columns. weak_from (λ t c. st.Select t columns c))
+    both select_list (λ columns. expect (sign.Key key.From) >> (name >>= (λ t. condition >>= (λ c. pure (st.Select t columns c))))) ShownStop IsEnd weak_shown (λ columns. weak_from (λ t c. st.Select t columns c))
     (word.Key key.From) (some_name ∷ []) (λ columns. fill_from (λ t c. st.Select t columns c)) from_stops
 
 fill_select : Fills select IsEnd (word.Mark 42 0) (word.Key key.From ∷ some_name ∷ [])
 unfolding select
 fill_select =
-    fill_both shown (λ columns. expect (sign.Key key.From) >> (name >>= (λ t. condition >>= (λ c. pure (st.Select t columns c))))) ShownStop IsEnd weak_shown (λ columns. weak_from (λ t c. st.Select t columns c))
+    fill_both select_list (λ columns. expect (sign.Key key.From) >> (name >>= (λ t. condition >>= (λ c. pure (st.Select t columns c))))) ShownStop IsEnd weak_shown (λ columns. weak_from (λ t c. st.Select t columns c))
     (word.Key key.From) (some_name ∷ []) (λ columns. fill_from (λ t c. st.Select t columns c)) from_stops (word.Mark 42 0) [] fill_shown
 
 module _ (column : List ℕ) where

@@ -4,7 +4,7 @@ use sk_rows::NoMemory;
 
 /// Why no script was played.
 #[derive(Clone, Copy, Debug, PartialEq, Eq)]
-pub(crate) enum Stop {
+pub(crate) enum RunFault {
     /// The words are of no written form.
     Usage,
     /// This is the first fault of the script.
@@ -14,13 +14,13 @@ pub(crate) enum Stop {
     NoMemory,
 }
 
-impl From<NoMemory> for Stop {
+impl From<NoMemory> for RunFault {
     ghost use Rattle.std.specs.Prelude.{◌≡◌};
-    ghost use Rattle.sk_serial.specs.declared.stop.Stop.TheVariants as stop;
+    ghost use Rattle.sk_serial.specs.declared.run_fault.RunFault.TheVariants as run_fault;
 
-    ghost from_gives = { λ _ e. e ≡ stop.NoMemory };
+    ghost from_gives = { λ _ e. e ≡ run_fault.NoMemory };
 
-    fn from(_e: NoMemory) -> Stop {
-        Stop::NoMemory
+    fn from(_e: NoMemory) -> RunFault {
+        RunFault::NoMemory
     }
 }

@@ -18,7 +18,7 @@ use Rattle.sk_parse.specs.Terms.{name_of, value_of, negative_of, name, literal, 
 use Rattle.sk_parse.specs.Grammar.{found_by, more_on, more, compare_on, compared_to, chained, is_column, in_parens, atom_over, sum_over, comp_over, expr_over, neg, expr}
 use Rattle.sk_parse.proofs.Complete.{Ends, EndsAnd, EndsComp, EndsProd, EndsSum, None_at, fuel, more_none}
 use Rattle.sk_parse.proofs.Local.{list_fuel, local_bind, local_cond, local_compared, local_first, local_more, local_next, local_pure, local_refuse, local_rest, local_taken, local_turns}
-use Rattle.sk_parse.proofs.Reaches.{Completion, Fills, IsLocal, Kind, KindTail, Tail, Weak, fills_bind, fills_then, rest_of, rest_pure, tail_first, tail_pure, weak_bind, weak_first, weak_then}
+use Rattle.sk_parse.proofs.GoesOn.{Completion, Fills, IsLocal, Kind, KindTail, Tail, Weak, fills_bind, fills_then, rest_of, rest_pure, tail_first, tail_pure, weak_bind, weak_first, weak_then}
 use Rattle.sk_parse.proofs.Sound.{Gave, same}
 
 abbrev pub Anything : Input → Type 0
