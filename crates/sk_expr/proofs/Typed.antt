@@ -1,5 +1,5 @@
 -- The sort of an expression from its end on.
-use Rattle.std.proofs.Common.{◌≡◌, Result, Ok, Err, List, refl, sym, ap, ◌∙◌}
+use Rattle.std.proofs.Common.{◌≡◌, Result, Ok, Err, refl}
 use Rattle.sk_rows.specs.declared.value.Sort.{Sort}
 use Rattle.sk_rows.specs.declared.value.Sort.TheVariants as sort
 use Rattle.sk_rows.specs.declared.expr.Op.{Op}

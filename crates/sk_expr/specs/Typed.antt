@@ -1,5 +1,5 @@
 -- The sort of an expression from its end on.
-use Rattle.std.specs.Prelude.{Result, Ok, Err}
+use Rattle.std.specs.Prelude.{Result}
 use Rattle.sk_rows.specs.declared.value.Sort.{Sort}
 use Rattle.sk_rows.specs.declared.value.Sort.TheVariants as sort
 use Rattle.sk_rows.specs.declared.expr.Op.{Op}
