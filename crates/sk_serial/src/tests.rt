@@ -326,43 +326,49 @@ fn numbered(alloc: Global, front: &str, back: &str) -> Result<String, AllocError
 
 /// A hundred rows, 64 NOTs, a line of 4,096 bytes, texts of 255 bytes and a row with four of them, which takes 1,030 bytes in a file.
 fn ordinary_script(alloc: Global) -> Result<String, AllocError> {
+    let rows = numbered(alloc, "1: INSERT INTO a VALUES (", ", 7)\n")?;
     let long = repeated(alloc, "k", 255)?;
+    let nots = repeated(alloc, "NOT ", 64)?;
+    let zeros = repeated(alloc, " + 0", 1016)?;
     joined(
         alloc,
         &[
             "TABLE a MEMORY id INT, v INT\nTABLE w STORAGE k TEXT, b TEXT, c TEXT, d TEXT, e TEXT\n",
             "1: BEGIN\n",
-            &numbered(alloc, "1: INSERT INTO a VALUES (", ", 7)\n")?,
+            rows.as_str(),
             "1: INSERT INTO w VALUES ('",
-            &long,
+            long.as_str(),
             "', '', '', '', '')\n1: COMMIT\n1: INSERT INTO w VALUES ('', '",
-            &long,
+            long.as_str(),
             "', '",
-            &long,
+            long.as_str(),
             "', '",
-            &long,
+            long.as_str(),
             "', '",
-            &long,
+            long.as_str(),
             "')\n1: UPDATE a SET v = v + 1\n1: SELECT v, id FROM a WHERE ",
-            &repeated(alloc, "NOT ", 64)?,
+            nots.as_str(),
             "id > 99\n1: SELECT v FROM a WHERE id = 50",
-            &repeated(alloc, " + 0", 1016)?,
+            zeros.as_str(),
             "\n1: SELECT k FROM w\n1: SELECT * FROM a\n",
         ],
     )
 }
 
 fn ordinary_text(alloc: Global) -> Result<String, AllocError> {
+    let counts = repeated(alloc, "1: COUNT 1\n", 101)?;
+    let long = repeated(alloc, "k", 255)?;
+    let rows = numbered(alloc, "1: ROW ", ", 8\n")?;
     joined(
         alloc,
         &[
             "1: OK 1.1\n",
-            &repeated(alloc, "1: COUNT 1\n", 101)?,
+            counts.as_str(),
             "1: COMMITTED\n1: ERR size\n1: COUNT 100\n",
             "1: ROW 8, 100\n1: ROWS 1\n1: ROW 8\n1: ROWS 1\n1: ROW '",
-            &repeated(alloc, "k", 255)?,
+            long.as_str(),
             "'\n1: ROWS 1\n",
-            &numbered(alloc, "1: ROW ", ", 8\n")?,
+            rows.as_str(),
             "1: ROWS 100\nORDER 1.1 1 1\nORDER 1.3 2 -\n",
             "TX 1.1 cross 0 0 0 committed 1 1 -\nTX 1.2 storage - 1 1 rolledback - - -\n",
             "TX 1.3 memory 1 - 1 committed 2 - -\nTX 1.4 memory 2 - 2 committed - - -\n",
