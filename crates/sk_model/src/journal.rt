@@ -138,7 +138,7 @@ impl JournalWriter {
         }
     }
 
-    /// Takes room for so many entries more. Refused where there is no memory, and where there are as many entries as there may be.
+    /// Takes room for so many entries more. Refused where there is no memory, where there are as many entries as there may be, and where more than 2^62 of them would be no Horizons.
     pub fn take_room(&mut self, entries: usize) -> Result<(), NoMemory>
         ensures ok { OnOk result (self.new ≡ record { entries = self.old.entries; room = self.old.room + entries }) }
         ensures err { OnErr result (self.new ≡ self.old) }
