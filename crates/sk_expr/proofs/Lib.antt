@@ -1,12 +1,15 @@
-pub mod Checked
-pub mod Concerned
-pub mod Extensions
-pub mod Names
-pub mod Operations
-pub mod Placing
+-- sorts and values along the left side of an expression
 pub mod Sides
-pub mod Sound
-pub mod Taking
-pub mod Tables
-pub mod Telling
+pub mod Operations
 pub mod Typed
+pub mod Checked
+pub mod Sound
+-- the rows that can matter, and what a statement comes to over them
+pub mod Extensions
+pub mod Taking
+pub mod Names
+pub mod Concerned
+-- the replayer
+pub mod Tables
+pub mod Placing
+pub mod Telling

@@ -7,7 +7,7 @@ mod scanning;
 mod token;
 
 pub use laws::{printed_words_are_read, tokens_are_printable};
-pub use scanning::{Scanned, ScanFault, scan, tokens};
+pub use scanning::{ScanFault, Scanned, scan, tokens};
 pub use token::{Keyword, LexFault, Token, TokenList, WORDS, Word};
 
 #[cfg(test)]

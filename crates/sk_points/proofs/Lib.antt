@@ -1,6 +1,9 @@
+-- partitions, and a point behind the others
 pub mod Shapes
-pub mod Searching
 pub mod Adding
-pub mod Standing
+-- what is looked for among the live points
+pub mod Searching
 pub mod Picking
+-- the state that it stands for, call by call
+pub mod Standing
 pub mod Calls

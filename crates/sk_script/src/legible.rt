@@ -6,7 +6,7 @@ ghost use Rattle.sk_script.specs.Limits.{longest_line, longest_script};
 ghost use Rattle.sk_script.specs.Lines.{IsLine};
 
 use crate::limits::{LONGEST_LINE, LONGEST_TEXT};
-use sk_lex::{Scanned, ScanFault, Token, TokenList, Word, scan};
+use sk_lex::{ScanFault, Scanned, Token, TokenList, Word, scan};
 use sk_rows::{NoMemory, Txt};
 use std::alloc::Global;
 

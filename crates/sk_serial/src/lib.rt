@@ -2,8 +2,8 @@
 #![tactic(auto)]
 
 mod playing;
-mod running;
 mod run_fault;
+mod running;
 
 pub use running::run_script;
 

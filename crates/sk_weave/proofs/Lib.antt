@@ -1,27 +1,34 @@
-pub mod Merging
-pub mod Running
+-- points: the staircase, selections, pairs and cuts
+pub mod Staircase
 pub mod Picks
 pub mod Pairs
-pub mod Staircase
-pub mod Splits
+pub mod Cuts
+-- the list is woven, and has what each engine has
+pub mod Merging
 pub mod Parts
+pub mod Running
 pub mod Content
-pub mod Alone
-pub mod Holding
 mod Halved
-mod WeaveExamples
-pub mod Premises
-pub mod Registers
+-- at a pair the list splits; prefixes, and what they hold
+pub mod Splits
+pub mod Alone
 pub mod Prefixes
-pub mod Held
-pub mod Writers
-pub mod Wins
-pub mod Keys
-mod ReadExamples
+pub mod Holding
+-- prefixes that stay, engine by engine; commits over both engines
 pub mod Upto
 pub mod Engines
 pub mod Crossings
+-- what a transaction reads and writes over the list
+pub mod Held
+pub mod Keys
+pub mod Writers
+pub mod Wins
+-- a registry of points, and what comes ahead of a transaction
+pub mod Registers
 pub mod Aheads
-pub mod Cuts
+-- worked examples
+pub mod Premises
+mod WeaveExamples
+mod ReadExamples
 mod PrefixExamples
 mod AheadExamples
