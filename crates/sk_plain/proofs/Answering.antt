@@ -23,7 +23,7 @@ use Rattle.sk_model.specs.Database.{RowOf, KeyedRows, Tables, table_of}
 use Rattle.sk_model.specs.Names.{columns_at}
 use Rattle.sk_model.specs.Reads.{rows_read, rows_met}
 use Rattle.sk_model.specs.Changes.{new_rows}
-use Rattle.sk_model.specs.Replies.{Answer, refused, has_room, key_of, row_put, row_gone, inserted, shown, updated, deleted, comes_to, key_read, answer_of, writes_in, is_judged, is_judged_word, is_count}
+use Rattle.sk_model.specs.Replies.{Answer, refused, has_room, key_of, row_put, row_gone, inserted, select_answer, updated, deleted, comes_to, key_read, answer_of, writes_in, is_judged, is_judged_word, is_count}
 use Rattle.sk_model.proofs.Lists.{each_weaker}
 use Rattle.sk_plain.specs.Standing.{Live, Standing, is_stored, mem_count, store_count, may_use, started, mem_at_start, store_at_start, snapshot_taken, selected, heard, answered}
 use Rattle.sk_plain.specs.Session.{answer_at, engine_kind}
@@ -46,7 +46,7 @@ inserted_writes : (t : ℕ) (values : List Value) (rows : KeyedRows) → Writes 
 inserted_writes t values [] = of_two t (has_room values) (reply.Count 1, row_put t (key_of values, values) ∷ []) (refused err.Size) (refl, (refl, tt)) (refl, tt)
 inserted_writes t values (r ∷ rows) = (refl, tt)
 
-shown_writes : (t : ℕ) (columns : List Column) (names : Option (List (List ℕ))) (r : Result KeyedRows ValueFault) → Writes t (shown columns names r)
+shown_writes : (t : ℕ) (columns : List Column) (names : Option (List (List ℕ))) (r : Result KeyedRows ValueFault) → Writes t (select_answer columns names r)
 shown_writes t columns names (Err fault) = (refl, tt)
 shown_writes t columns names (Ok rows) = (refl, tt)
 

@@ -26,7 +26,7 @@ use Rattle.sk_model.specs.Changes.{new_rows}
 use Rattle.sk_model.specs.Database.{KeyedRows, Tables, table_of}
 use Rattle.sk_model.specs.Names.{columns_at, cond_known, names_known, sets_known, sets_twice, sets_key}
 use Rattle.sk_model.specs.Reads.{rows_met, rows_read}
-use Rattle.sk_model.specs.Replies.{Answer, has_room, inserted, shown, updated, deleted, comes_to, key_read, refusal_in, insert_refusal, select_refusal, update_refusal, delete_refusal}
+use Rattle.sk_model.specs.Replies.{Answer, has_room, inserted, select_answer, updated, deleted, comes_to, key_read, refusal_in, insert_refusal, select_refusal, update_refusal, delete_refusal}
 use Rattle.sk_model.specs.Sorts.{have_sorts, is_condition, sets_sorts}
 use Rattle.sk_model.specs.Spoken.{Seat, Outside, Inside, is_for_words, uses_label, seat_behind, labelled, lines_of, records_of, Counts, Names, Spoken, spoke}
 use Rattle.sk_model.proofs.Lists.{each_append}
@@ -94,7 +94,7 @@ inserted_plain : (t : ℕ) (values : List Value) (rows : KeyedRows) → Plain (i
 inserted_plain t values [] = plain_if (has_room values) _ _ (counts_plain 1) size_plain
 inserted_plain t values (r ∷ rows) = record { outside = refl; inside = refl; stays_outside = refl; stays_inside = refl; names = λ l. tt }
 
-shown_plain : (columns : List Column) (names : Option (List (List ℕ))) (r : Result KeyedRows ValueFault) → Plain (shown columns names r).0
+shown_plain : (columns : List Column) (names : Option (List (List ℕ))) (r : Result KeyedRows ValueFault) → Plain (select_answer columns names r).0
 shown_plain columns names (Err fault) = overflow_plain
 shown_plain columns names (Ok rows) = record { outside = refl; inside = refl; stays_outside = refl; stays_inside = refl; names = λ l. tt }
 
