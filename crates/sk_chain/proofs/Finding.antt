@@ -1,5 +1,5 @@
 -- What a reader finds at the place that it sees.
-use Rattle.std.proofs.Common.{ℕ, ◌≡◌, List, [], ◌∷◌, ◌++◌, Option, Some, None, Bool, true, false, cond, length, slice_get, is_some, refl, sym, ◌∙◌, ap, subst}
+use Rattle.std.proofs.Common.{ℕ, ◌≡◌, List, [], ◌∷◌, ◌++◌, Option, Some, None, Bool, true, false, cond, length, slice_get, is_some, refl, sym, ◌∙◌, ap, subst, append-nil}
 use Rattle.std.specs.List.{filter}
 use Rattle.sk_model.specs.declared.label.Label.{Label}
 use Rattle.sk_model.specs.EngineReplies.{last_in}
@@ -60,6 +60,10 @@ fits s [] ws = record { place = refl; some = refl }
 fits s (v ∷ vs) ws =
     subst (λ f. Fits (newest s (v ∷ vs)) (v ∷ (vs ++ ws)) f) (sym (last_upto-cons s v vs))
     (fits_more v (vs ++ ws) (newest s vs) (last_upto s vs) (is_upto s v.state) (fits s vs ws))
+
+-- what stands at the newest place
+pub newest_shows : (s : ℕ) (vs : List Version) → at_place (newest s vs) vs ≡ last_upto s vs
+newest_shows s vs = ap (at_place (newest s vs)) (sym (append-nil vs)) ∙ (fits s vs []).place
 
 place_is : (o : Option ℕ) (vs : List Version) → sight_of vs (seen_place o) ≡ Sees (at_place o vs)
 place_is None vs = refl

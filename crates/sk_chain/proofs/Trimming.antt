@@ -39,7 +39,7 @@ none_gone : (v : Version) (vs : List Version) (here : Bool) → from_place (late
 none_gone v vs true = refl
 none_gone v vs false = refl
 
-last_upto_kept : (u s : ℕ) → u ≤ s → (vs : List Version) → last_upto s (from_place (newest u vs) vs) ≡ last_upto s vs
+pub last_upto_kept : (u s : ℕ) → u ≤ s → (vs : List Version) → last_upto s (from_place (newest u vs) vs) ≡ last_upto s vs
 last_upto_kept u s l [] = refl
 last_upto_kept u s l (v ∷ vs) = step (newest u vs) refl (last_upto_kept u s l vs)
   where
@@ -54,7 +54,7 @@ last_more : (u : ℕ) (v : Version) (vs : List Version) (at : ℕ) → newest u 
 last_more u v [] at e = cc
 last_more u v (w ∷ ws) at e = refl
 
-last_kept : (u : ℕ) (vs : List Version) → last_in None (from_place (newest u vs) vs) ≡ last_in None vs
+pub last_kept : (u : ℕ) (vs : List Version) → last_in None (from_place (newest u vs) vs) ≡ last_in None vs
 last_kept u [] = refl
 last_kept u (v ∷ vs) = step (newest u vs) refl (last_kept u vs)
   where

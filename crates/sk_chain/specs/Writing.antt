@@ -1,5 +1,5 @@
 -- Whom a write of a row meets.
-use Rattle.std.specs.Prelude.{ℕ, Option, Some, None, cond, nat_lt}
+use Rattle.std.specs.Prelude.{ℕ, Option, Some, None, Bool, false, cond, nat_lt}
 use Rattle.sk_model.specs.declared.label.Label.{Label}
 use Rattle.sk_model.specs.declared.reply.Why.{Why}
 use Rattle.sk_model.specs.declared.reply.Why.TheVariants as why
@@ -9,6 +9,11 @@ use Rattle.sk_chain.specs.declared.version.VersionState.{VersionState}
 use Rattle.sk_chain.specs.declared.version.VersionState.TheVariants.{Open, Closed, Stamped}
 use Rattle.sk_chain.specs.declared.version.Blocked.{Blocked}
 use Rattle.sk_chain.specs.Chained.{Chained, Version}
+
+-- there is a version, and it is by this transaction
+abbrev pub is_by : Label → Option Version → Bool
+is_by by None = false
+is_by by (Some v) = same_label by v.by
 
 abbrev pub why_of : VersionState → Why
 why_of Open = why.Open

@@ -5,8 +5,8 @@ ghost use Rattle.std.specs.Option.{option_copied};
 ghost use Rattle.sk_model.specs.declared.label.Label.{Label};
 ghost use Rattle.sk_model.specs.EngineReplies.{last_in};
 ghost use Rattle.sk_chain.specs.Chained.{empty, versions, IsChain};
-ghost use Rattle.sk_chain.specs.Reading.{newest, seen_at, sight_of, found};
-ghost use Rattle.sk_chain.specs.Writing.{past_of, conflict};
+ghost use Rattle.sk_chain.specs.Reading.{newest, last_upto, seen_at, sight_of, found};
+ghost use Rattle.sk_chain.specs.Writing.{past_of, conflict, is_by};
 ghost use Rattle.sk_chain.specs.Changing.{may_push, pushed, closed, stamped, voided, trimmed};
 
 use crate::version::{
@@ -104,6 +104,26 @@ impl Chain {
             self.top.as_ref()
         } else {
             None
+        }
+    }
+
+    /// The newest version that is stamped with a number of at most `n`.
+    pub fn stamped_upto(&self, n: u32) -> Option<&Version>
+        ensures { option_copied result ≡ last_upto n self.now.settled }
+    {
+        match newest_upto(n, self.settled.as_slice()) {
+            Some(at) => Some(&self.settled[at]),
+            None => None,
+        }
+    }
+
+    /// Whether there is a version that is open or closed, and it is this transaction's.
+    pub fn is_by(&self, by: Label) -> bool
+        ensures { result ≡ is_by by self.now.top }
+    {
+        match &self.top {
+            Some(top) => same_label(by, top.by),
+            None => false,
         }
     }
 

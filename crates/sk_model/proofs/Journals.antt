@@ -10,7 +10,8 @@ use Rattle.sk_model.specs.Legal.{after_entries}
 use Rattle.sk_model.specs.Calls.{last_row}
 use Rattle.sk_model.specs.Stamped.{number_in, writes_of}
 use Rattle.sk_model.specs.EngineLaws.{VersionsRise, ReadsSnapshot, OwnWrites}
-use Rattle.sk_model.proofs.Order.{Good, good_entries, good_start}
+use Rattle.sk_model.proofs.Order.{good_entries, good_start}
+use Rattle.sk_model.specs.EngineInvariant.{Good}
 use Rattle.sk_model.proofs.Numbered.{row_rises}
 use Rattle.sk_model.proofs.Reading.{engine_read, own_versions, view_row, length_state, upto_inside}
 use Rattle.sk_model.proofs.Own.{own_is_puts}

@@ -27,26 +27,11 @@ use Rattle.sk_model.specs.EngineConditions.{is_closed, floor_of, may}
 use Rattle.sk_model.specs.Legal.{step, after_entries}
 use Rattle.sk_model.specs.Stamped.{number_in, v_number, writes_of, Has}
 use Rattle.sk_model.specs.EngineLaws.{StampedAreCommits}
+use Rattle.sk_model.specs.EngineInvariant.{FloorFrom, Known, Listed}
 use Rattle.sk_model.proofs.Lists.{Each, each_weaker}
 use Rattle.sk_model.proofs.Labels.{openings_put, openings_closed, openings_without}
 use Rattle.sk_model.proofs.Quiet.{each_map_from, each_put, step_keeps}
 use Rattle.sk_model.proofs.Reading.{name_stays}
-
--- a floor, where there is one, is not before the start
-abbrev pub FloorFrom : ℕ → Option Opening → Type 0
-FloorFrom s None = Unit {0}
-FloorFrom s (Some o) = (f : ℕ) → o.floor ≡ Some f → s ≤ f
-
--- a version's number, where it has one, is among these
-abbrev pub Known : List (ℕ × Label) → Version → Type 0
-Known stamped v = (n : ℕ) → v_number v ≡ Some n → is_some (find nat_cmp n stamped) ≡ true
-
-pub record Listed (s : ℕ) (e : EngineTable) : Type 0 where
-  pub sorted : T (is_sorted nat_cmp e.stamped)
-  pub past : Each (λ (p : ℕ × Label). s < p.0) e.stamped
-  pub floors : (l : Label) → FloorFrom s (opening_of e l)
-  pub greatest : s ≤ e.greatest
-  pub known : Each (Known e.stamped) e.versions
 
 pub some_is : {X : Type 0} {x y : X} → Some x ≡ Some y → x ≡ y
 some_is e = cc

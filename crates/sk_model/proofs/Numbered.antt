@@ -21,7 +21,8 @@ use Rattle.sk_model.proofs.Numbers.{there_is, none_pass, split_at}
 use Rattle.sk_model.proofs.Lookups.{row_after_writes, state_is}
 use Rattle.sk_model.proofs.Nets.{net_row}
 use Rattle.sk_model.proofs.Quiet.{reads, seen_versions}
-use Rattle.sk_model.proofs.Order.{Ordered, TimedAt, Behind, same_row, is_row, same_row_of}
+use Rattle.sk_model.proofs.Order.{is_row, same_row_of}
+use Rattle.sk_model.specs.EngineInvariant.{Ordered, TimedAt, Behind, same_row}
 
 abbrev pub row_versions : ℕ → Value → List Version → List Version
 row_versions t key vs = filter (is_row t key) vs

@@ -25,35 +25,8 @@ use Rattle.sk_model.specs.Legal.{step, after_entries, is_refusal, due, may_fail,
 use Rattle.sk_model.proofs.Lists.{Each, each_both, each_weaker}
 use Rattle.sk_model.proofs.Lookups.{hits_is, hits_itself}
 use Rattle.sk_model.proofs.Labels.{same_is, openings_put, openings_closed, openings_without}
-use Rattle.sk_model.proofs.Quiet.{Sound, AllSound, Stands, each_map_from, each_put, step_keeps, no_closed, sound_change, put_standing}
-
--- v may stand before a version that was written at the snapshot s
-abbrev pub Precedes : VersionState → ℕ → Type 0
-Precedes Open s = ⊥
-Precedes (Closed f) s = ⊥
-Precedes (Stamped n) s = n ≤ s
-Precedes Dropped s = Unit {0}
-
--- a version that stands as w and was written at s may stand behind one that stands as v
-abbrev pub Behind : VersionState → VersionState → ℕ → Type 0
-Behind Dropped v s = Unit {0}
-Behind Open v s = Precedes v s
-Behind (Closed f) v s = Precedes v s
-Behind (Stamped m) v s = Precedes v s
-
-abbrev pub same_row : Version → Version → Bool
-same_row v w = hits v.write.table v.write.key w.write
-
-abbrev pub Ordered : List Version → Type 0
-Ordered [] = Unit {0}
-Ordered (v ∷ vs) = Each (λ (w : Version). same_row v w ≡ true → Behind w.standing v.standing w.snapshot) vs × Ordered vs
-
--- a version's number and floor are past the snapshot at which it was written
-abbrev pub TimedAt : ℕ → ℕ → VersionState → Type 0
-TimedAt greatest s Open = s ≤ greatest
-TimedAt greatest s (Closed f) = s ≤ f
-TimedAt greatest s (Stamped n) = s < n
-TimedAt greatest s Dropped = Unit {0}
+use Rattle.sk_model.proofs.Quiet.{each_map_from, each_put, step_keeps, no_closed, sound_change, put_standing}
+use Rattle.sk_model.specs.EngineInvariant.{Sound, AllSound, Stands, Precedes, Behind, same_row, Ordered, TimedAt, Good}
 
 behind_any : (x v : VersionState) (s : ℕ) → Precedes v s → Behind x v s
 behind_any Open v s h = h
@@ -239,13 +212,6 @@ put_lets e tx w m sound ordered timed h =
         go (Closed g) q = absurd (no_closed tx e.openings v m so (own v i r (ap is_undecided q)) g q)
         go (Stamped n) q = given (and_from _ _ i (ap is_stamped q))
         go Dropped q = rw q tt
-
--- what every table of a legal journal obeys: no opening's snapshot is past the greatest
-pub record Good (e : EngineTable) : Type 0 where
-  pub sound : AllSound e
-  pub ordered : Ordered e.versions
-  pub timed : Each (λ (v : Version). TimedAt e.greatest v.snapshot v.standing) e.versions
-  pub opens : (l : Label) → snapshot_of e l ≤ e.greatest
 
 timed_more : (g h s : ℕ) (st : VersionState) → g ≤ h → TimedAt g s st → TimedAt h s st
 timed_more g h s Open l t = omega arith

@@ -22,7 +22,8 @@ use Rattle.sk_model.specs.Calls.{last_row, is_own, own_writes_of, put_by, puts_o
 use Rattle.sk_model.proofs.Lists.{Each, filter_twice}
 use Rattle.sk_model.proofs.Labels.{same_is, same_itself}
 use Rattle.sk_model.proofs.Lookups.{hits_is}
-use Rattle.sk_model.proofs.Order.{Good, Ordered, good_entries}
+use Rattle.sk_model.proofs.Order.{good_entries}
+use Rattle.sk_model.specs.EngineInvariant.{Good, Ordered}
 use Rattle.sk_model.proofs.Numbered.{filter-map, last_touched}
 use Rattle.sk_model.proofs.Reading.{own_versions, none_left}
 

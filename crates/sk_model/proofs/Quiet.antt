@@ -17,23 +17,9 @@ use Rattle.sk_model.specs.EngineReplies.{is_used}
 use Rattle.sk_model.specs.EngineChanges.{restood, restand, put_version, without_opening, closed_at, closed_in, opening_at, change}
 use Rattle.sk_model.specs.EngineConditions.{may, has_table, has_key, has_row, is_closed, is_standing, floor_of}
 use Rattle.sk_model.specs.Legal.{step, after_entries, is_refusal}
+use Rattle.sk_model.specs.EngineInvariant.{Stands, Sound, AllSound}
 use Rattle.sk_model.proofs.Lists.{Each, each_both, each_weaker}
 use Rattle.sk_model.proofs.Labels.{same_is, same_itself, not_same_back, find_put, find_without}
-
--- an open version's transaction has a standing opening, and a closed one's is closed with its floor
-abbrev pub Stands : Option Opening → VersionState → Type 0
-Stands None Open = ⊥
-Stands (Some o) Open = o.floor ≡ None
-Stands None (Closed f) = ⊥
-Stands (Some o) (Closed f) = o.floor ≡ Some f
-Stands o (Stamped n) = Unit {0}
-Stands o Dropped = Unit {0}
-
-abbrev pub Sound : Openings → Version → Type 0
-Sound os v = Stands (opening_in v.by os) v.standing
-
-abbrev pub AllSound : EngineTable → Type 0
-AllSound e = Each (Sound e.openings) e.versions
 
 -- the standing of a version after its transaction's versions got a new one
 restood_standing : (tx : Label) (st : VersionState) (v : Version) → (restood tx st v).standing ≡ cond (same_label tx v.by && is_undecided v.standing) st v.standing

@@ -29,8 +29,9 @@ use Rattle.sk_model.specs.Stamped.{CommitsOf, writes_of}
 use Rattle.sk_model.specs.Calls.{last_row, is_own, own_writes_of}
 use Rattle.sk_model.proofs.Lists.{Each, each_both, each_weaker, filter_twice}
 use Rattle.sk_model.proofs.Lookups.{row_after_writes, length_after_writes, state_is, hits_is}
-use Rattle.sk_model.proofs.Quiet.{undecided_unseen, step_keeps, reads, seen_versions, Quiet, QuietAt, Sound, no_closed, seen_stays}
-use Rattle.sk_model.proofs.Order.{Good, Ordered, Behind, same_row, same_row_of, find_none, good_entries, good_start}
+use Rattle.sk_model.proofs.Quiet.{undecided_unseen, step_keeps, reads, seen_versions, Quiet, QuietAt, no_closed, seen_stays}
+use Rattle.sk_model.specs.EngineInvariant.{Sound, Good, Ordered, Behind, same_row}
+use Rattle.sk_model.proofs.Order.{same_row_of, find_none, good_entries, good_start}
 use Rattle.sk_model.proofs.Numbered.{filter-map, filter_none, filter_agree_on, engine_row, last_touched, touched}
 
 abbrev pub own_versions : Label → ℕ → Value → List Version → List Version

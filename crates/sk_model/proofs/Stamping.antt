@@ -19,8 +19,9 @@ use Rattle.sk_model.specs.Stamped.{number_of}
 use Rattle.sk_model.specs.EngineLaws.{StampedAtSnapshot}
 use Rattle.sk_model.proofs.Lists.{Each, each_both, each_weaker}
 use Rattle.sk_model.proofs.Labels.{same_is, find_put, find_without, openings_put, openings_closed, openings_without}
-use Rattle.sk_model.proofs.Quiet.{Sound, AllSound, Stands, each_map_from, each_put, step_keeps, none_from, sound_change}
-use Rattle.sk_model.proofs.Listed.{Known, Listed, listed_entries, listed_start, found_put, some_is, none_some}
+use Rattle.sk_model.proofs.Quiet.{each_map_from, each_put, step_keeps, none_from, sound_change}
+use Rattle.sk_model.specs.EngineInvariant.{Sound, AllSound, Stands, Known, Listed}
+use Rattle.sk_model.proofs.Listed.{listed_entries, listed_start, found_put, some_is, none_some}
 
 -- an undecided version was written at the snapshot of its transaction
 abbrev WrittenAt : Openings → Version → Type 0

@@ -16,6 +16,7 @@ pub mod Journal
 pub mod Calls
 pub mod Stamped
 pub mod Halves
+pub mod EngineInvariant
 pub mod EngineLaws
 pub mod Replies
 pub mod Sorts
