@@ -9,6 +9,7 @@ mod label;
 mod laws;
 mod outcome;
 mod point;
+mod receipt;
 mod record;
 mod reply;
 mod step;
@@ -25,6 +26,7 @@ pub use laws::{
 };
 pub use outcome::{Outcome, PlaceList};
 pub use point::{Point, PointList, Recycled};
+pub use receipt::{FlushFault, Need, Receipt, ReceiptList};
 pub use record::{Ending, Record, RecordList, Said, SaidList, TxKind};
 pub use reply::{ErrWord, Reply, ReplyList, RowList, Why};
 pub use step::StepName;
