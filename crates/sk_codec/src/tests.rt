@@ -1,5 +1,5 @@
 use super::*;
-use sk_model::Label;
+use sk_model::{Commit, Label};
 use sk_rows::{Catalog, Column, List, Sort, Table, Txt, Value, fits};
 use std::alloc::Global;
 use std::test::*;
@@ -92,12 +92,27 @@ fn a_record_of_both_engines(rt: HostRuntime) -> Result<(), Fail> {
     assert_eq!(rt; len, 38);
     assert_eq!(rt; commit.label, Label { session: 1, k: 1 });
     assert_eq!(rt; (commit.mem, commit.store), (Some(1), Some(1)));
-    let mut out = Vec::new(alloc);
-    assert!(rt; put_record(&mut out, true, &commit).is_ok());
-    assert_eq!(rt; out.as_slice(), RECORD.as_slice());
     let fault = read_record(alloc, &RECORD, false, &catalog).err();
     assert_eq!(rt; fault, Some(CodecFault::Range { place: 19 }));
     let fault = read_record(alloc, &RECORD[..37], true, &catalog).err();
     assert_eq!(rt; fault, Some(CodecFault::Short { place: 30 }));
+    Ok(())
+}
+
+/// Transaction 1.1 drew the number 1 of the memory engine and wrote nothing.
+#[test]
+fn a_record_without_writes(rt: HostRuntime) -> Result<(), Fail> {
+    let commit = Commit {
+        label: Label { session: 1, k: 1 },
+        mem: Some(1),
+        store: None,
+        writes: List::new(rt.alloc()),
+    };
+    let mut out = Vec::new(rt.alloc());
+    assert!(rt; put_record(&mut out, false, &commit).is_ok());
+    assert_eq!(rt;
+        out.as_slice(),
+        [0, 1, 0, 0, 0, 1, 0, 0, 0, 0, 1, 0, 0, 0, 0].as_slice()
+    );
     Ok(())
 }
