@@ -2,7 +2,7 @@ ghost use Rattle.std.specs.Prelude.{◌≡◌, true, OnOk};
 ghost use Rattle.sk_chain.specs.Changing.{may_push, pushed};
 
 use super::*;
-use sk_model::{CommitList, EngineCall, EngineFault, HorizonRun, KeyedRows, Label, Why};
+use sk_model::{Label, Why};
 use sk_rows::{NoMemory, Row, Value};
 use std::process::Abort;
 use std::test::Fail;
@@ -132,107 +132,6 @@ fn versions_are_voided_and_trimmed(rt: HostRuntime) -> Result<(), Fail> {
         &rt,
         &chain,
         &[(C, 6, Seen::Nothing, Some(past)), (C, 7, Seen::At(0), None)],
-    );
-    Ok(())
-}
-
-// An engine that stands for no table: it answers a number, and all else that no caller can ask for.
-#[derive(Debug, Drop)]
-struct Sevens;
-
-impl Engine for Sevens {
-    ghost use Rattle.std.specs.Prelude.{true};
-    ghost use Rattle.sk_model.specs.declared.engine.EngineName.TheVariants.{Mem};
-
-    ghost name = { Mem };
-
-    ghost told = { true };
-
-    ghost faults = { λ _. 0 };
-
-    ghost stands = { λ _ _ _. ⊥ };
-
-    fn open(&mut self, _tx: Label, _snapshot: u32) -> Result<(), EngineFault> {
-        Err(EngineFault::NoMemory)
-    }
-
-    fn get(&mut self, _tx: Label, _table: u16, _key: &Value) -> Result<Option<Row>, EngineFault> {
-        Err(EngineFault::NoMemory)
-    }
-
-    fn scan(&mut self, _tx: Label, _table: u16) -> Result<KeyedRows, EngineFault> {
-        Err(EngineFault::NoMemory)
-    }
-
-    fn put(
-        &mut self,
-        _tx: Label,
-        _table: u16,
-        _key: &Value,
-        _row: Option<Row>,
-    ) -> Result<(), EngineFault> {
-        Err(EngineFault::NoMemory)
-    }
-
-    fn close(&mut self, _tx: Label) -> Result<u32, EngineFault> {
-        Err(EngineFault::NoMemory)
-    }
-
-    fn stamp(&mut self, _tx: Label, _n: u32) {}
-
-    fn void(&mut self, _tx: Label, _n: u32) {}
-
-    fn drop_tx(&mut self, _tx: Label) {}
-
-    fn horizon(&mut self) -> u32 {
-        7
-    }
-
-    fn records(&mut self, _from: u32, _to: u32) -> Result<CommitList, EngineFault> {
-        Err(EngineFault::NoMemory)
-    }
-
-    fn purge(&mut self, upto: u32) -> Result<u32, EngineFault> {
-        if upto < 7 {
-            Ok(upto)
-        } else {
-            Err(EngineFault::NoMemory)
-        }
-    }
-
-    fn may(&self, _call: &EngineCall) -> bool {
-        true
-    }
-
-    ghost is_named = { λ _ _ _ st. absurd st };
-}
-
-#[test]
-fn horizons_that_follow_one_another_are_one_number(rt: HostRuntime) -> Result<(), Fail> {
-    let mut noted = Noted::new(rt.alloc(), Sevens);
-    for _ in 0..3 {
-        assert_eq!(&rt; noted.horizon(), 7);
-    }
-    assert_eq!(&rt; noted.purge(5), Ok(5));
-    assert_eq!(&rt; noted.purge(9), Err(EngineFault::NoMemory));
-    assert_eq!(&rt; noted.horizon(), 7);
-    let (_, journal) = noted.into_parts();
-    assert_eq!(&rt; journal.len(), 5);
-    let (parts, last) = journal.as_parts();
-    assert_eq!(&rt; parts.len(), 1);
-    assert_eq!(&rt;
-        parts[0].horizons,
-        HorizonRun {
-            answer: 7,
-            count: 3
-        }
-    );
-    assert_eq!(&rt;
-        last,
-        HorizonRun {
-            answer: 7,
-            count: 1
-        }
     );
     Ok(())
 }
