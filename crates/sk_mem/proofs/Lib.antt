@@ -1,5 +1,0 @@
-pub mod Maps
-pub mod Starting
-pub mod Listing
-pub mod Scans
-pub mod Showing

@@ -1,3 +1,0 @@
-pub mod Horizons
-pub mod Selections
-pub mod SweepExamples

@@ -1,7 +1,0 @@
-pub mod Frees
-pub mod Keeping
-pub mod Kept
-pub mod Places
-pub mod Pushes
-pub mod Trims
-mod UndoExamples
