@@ -1,0 +1,12 @@
+-- what a write and a sync leave
+pub mod Standing
+-- reading turns, and what an image that grew opens as
+pub mod Tools
+pub mod Turns
+pub mod Openings
+pub mod Groups
+-- what is spelled is read: groups, images
+pub mod Written
+pub mod Imaged
+-- worked examples
+mod StoreExamples

@@ -1,0 +1,5 @@
+pub mod Maps
+pub mod Starting
+pub mod Listing
+pub mod Scans
+pub mod Showing

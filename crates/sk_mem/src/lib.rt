@@ -1,0 +1,13 @@
+//! The memory engine: one chain of versions a row, in an ordered map a table.
+#![tactic(auto)]
+
+mod chains;
+mod engine;
+mod first;
+mod laws;
+mod rows;
+mod scanning;
+
+pub use engine::MemEngine;
+pub use laws::mem_journal_is_legal;
+pub use rows::MemRows;

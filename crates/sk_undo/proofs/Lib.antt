@@ -1,0 +1,7 @@
+pub mod Frees
+pub mod Keeping
+pub mod Kept
+pub mod Places
+pub mod Pushes
+pub mod Trims
+mod UndoExamples
