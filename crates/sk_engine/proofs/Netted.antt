@@ -24,7 +24,7 @@ use Rattle.sk_model.proofs.Lists.{Each, filter_twice}
 use Rattle.sk_model.proofs.Numbered.{filter_none, row_rises}
 use Rattle.sk_model.proofs.Order.{is_row}
 use Rattle.sk_model.specs.EngineInvariant.{Ordered, TimedAt}
-use Rattle.sk_model.proofs.Nets.{place_cmp_total}
+use Rattle.sk_model.proofs.Nets.{row_ids_ordered}
 use Rattle.sk_model.proofs.Lookups.{tied_is}
 use Rattle.sk_chain.specs.declared.version.Version.{Version as ChainVersion}
 use Rattle.sk_chain.specs.Chained.{Chained}
@@ -52,11 +52,11 @@ find_noted : (t : ℕ) (key : Value) (ws : List Write) (es : Noted) → find tab
 find_noted t key [] es = refl
 find_noted t key (w ∷ ws) es =
     find_noted t key ws (noted es w)
-    ∙ ap (λ o. last_write t key o ws) (find-put table_key_cmp place_cmp_total (t, key) (w.table, w.key) w.row es ∙ ap (λ b. cond b (Some w.row) (find table_key_cmp (t, key) es)) (table_key_tied t key (w.table, w.key)))
+    ∙ ap (λ o. last_write t key o ws) (find-put table_key_cmp row_ids_ordered (t, key) (w.table, w.key) w.row es ∙ ap (λ b. cond b (Some w.row) (find table_key_cmp (t, key) es)) (table_key_tied t key (w.table, w.key)))
 
 noted_sorted : (ws : List Write) (es : Noted) → T (is_sorted table_key_cmp es) → T (is_sorted table_key_cmp (fold noted es ws))
 noted_sorted [] es h = h
-noted_sorted (w ∷ ws) es h = noted_sorted ws (noted es w) (is_sorted-put table_key_cmp place_cmp_total (w.table, w.key) w.row es h)
+noted_sorted (w ∷ ws) es h = noted_sorted ws (noted es w) (is_sorted-put table_key_cmp row_ids_ordered (w.table, w.key) w.row es h)
 
 -- the row of the last of these
 abbrev row_last : Option Version → Option (Option RowOf)
@@ -322,7 +322,7 @@ pub net_given : (g p n : ℕ) (opening : ℕ → Value → Option RowOf) (vs : L
     → ((t : ℕ) (key : Value) → RowIs p (opening t key) (row_versions t key vs) (chains t key)) → Ordered vs → Each (λ (v : Version). TimedAt g v.snapshot v.standing) vs → p ≤ n → Wrote vs n row_ids
     → net (map (λ (v : Version). v.write) (filter (is_stamped_with n) vs)) ≡ map (write_given chains n) row_ids
 net_given g p n opening vs chains row_ids rows o timed le w =
-    ap (map write_of) (same_entries table_key_cmp place_cmp_total table_key_same (fold noted [] ws) (map (entry_of chains n) row_ids) (noted_sorted ws [] tt) (to_T _ (sorted_entries chains n row_ids w.ordered)) (λ q. at q.0 q.1))
+    ap (map write_of) (same_entries table_key_cmp row_ids_ordered table_key_same (fold noted [] ws) (map (entry_of chains n) row_ids) (noted_sorted ws [] tt) (to_T _ (sorted_entries chains n row_ids w.ordered)) (λ q. at q.0 q.1))
     ∙ written_out chains n row_ids
   where
     ws : List Write

@@ -7,6 +7,7 @@ pub mod Places
 pub mod Lookups
 pub mod ByTable
 pub mod Nets
+pub mod NetLaws
 -- an expression by its layers
 pub mod Layers
 -- a journal, and the condition on a row
@@ -25,6 +26,11 @@ pub mod Reading
 pub mod Listed
 pub mod Numbered
 pub mod Parts
+-- what a record asked of the engines, and what that tells: theory for others too
+pub mod Answered
+pub mod Bridging
+pub mod TalksTold
+pub mod EngineEnds
 -- worked examples
 mod ReplyExamples
 mod EngineExamples

@@ -33,37 +33,37 @@ by_key = record {
   congr = λ x y z e. value_cmp_total.congr x.1 y.1 z.1 e;
 }
 
-pub place_cmp_total : IsTotalOrder row_id_cmp
-place_cmp_total = then_total by_table by_key
+pub row_ids_ordered : IsTotalOrder row_id_cmp
+row_ids_ordered = then_total by_table by_key
 
--- places tie where a write is of the row
-place_tied : (t : ℕ) (key : Value) (w : Write) → eq_by_cmp row_id_cmp (t, key) (w.table, w.key) ≡ hits t key w
-place_tied t key w = sym (tied_then (nat_cmp t w.table) (value_cmp key w.key)) ∙ ap (λ b. b && is_eq (value_cmp key w.key)) (unsigned_tied t w.table)
+-- rows tie where a write is of the row
+pub row_id_tied : (t : ℕ) (key : Value) (w : Write) → eq_by_cmp row_id_cmp (t, key) (w.table, w.key) ≡ hits t key w
+row_id_tied t key w = sym (tied_then (nat_cmp t w.table) (value_cmp key w.key)) ∙ ap (λ b. b && is_eq (value_cmp key w.key)) (unsigned_tied t w.table)
 
-abbrev Rows : Type 0
+abbrev pub Rows : Type 0
 Rows = List (RowId × Option RowOf)
 
-abbrev found : Option RowOf → Option (Option RowOf) → Option RowOf
+abbrev pub found : Option RowOf → Option (Option RowOf) → Option RowOf
 found r None = r
 found r (Some x) = x
 
 -- the row after the writes noted so far and these
-noted_row : (t : ℕ) (key : Value) (r : Option RowOf) (ws : List Write) (es : Rows) → found r (find row_id_cmp (t, key) (fold noted es ws)) ≡ last_row t key (found r (find row_id_cmp (t, key) es)) ws
+pub noted_row : (t : ℕ) (key : Value) (r : Option RowOf) (ws : List Write) (es : Rows) → found r (find row_id_cmp (t, key) (fold noted es ws)) ≡ last_row t key (found r (find row_id_cmp (t, key) es)) ws
 noted_row t key r [] es = refl
 noted_row t key r (w ∷ ws) es =
     noted_row t key r ws (noted es w)
-    ∙ ap (λ o. last_row t key (found r o) ws) (find-put row_id_cmp place_cmp_total (t, key) (w.table, w.key) w.row es ∙ ap (λ b. cond b (Some w.row) (find row_id_cmp (t, key) es)) (place_tied t key w))
+    ∙ ap (λ o. last_row t key (found r o) ws) (find-put row_id_cmp row_ids_ordered (t, key) (w.table, w.key) w.row es ∙ ap (λ b. cond b (Some w.row) (find row_id_cmp (t, key) es)) (row_id_tied t key w))
     ∙ ap (λ x. last_row t key x ws) (split (hits t key w))
   where
     split : (b : Bool) → found r (cond b (Some w.row) (find row_id_cmp (t, key) es)) ≡ cond b w.row (found r (find row_id_cmp (t, key) es))
     split true = refl
     split false = refl
 
-noted_sorted : (ws : List Write) (es : Rows) → T (is_sorted row_id_cmp es) → T (is_sorted row_id_cmp (fold noted es ws))
+pub noted_sorted : (ws : List Write) (es : Rows) → T (is_sorted row_id_cmp es) → T (is_sorted row_id_cmp (fold noted es ws))
 noted_sorted [] es h = h
-noted_sorted (w ∷ ws) es h = noted_sorted ws (noted es w) (is_sorted-put row_id_cmp place_cmp_total (w.table, w.key) w.row es h)
+noted_sorted (w ∷ ws) es h = noted_sorted ws (noted es w) (is_sorted-put row_id_cmp row_ids_ordered (w.table, w.key) w.row es h)
 
-from_T : (b : Bool) → T b → b ≡ true
+pub from_T : (b : Bool) → T b → b ≡ true
 from_T true h = refl
 from_T false h = absurd h
 
@@ -82,7 +82,7 @@ none_behind : (t : ℕ) (key : Value) (x : RowId) (r : Option RowOf) (es : Rows)
 none_behind t key x r [] e h = refl
 none_behind t key x r (p ∷ es) e h =
     let parts : (is_lt (row_id_cmp x p.0) ≡ true) × (below_all row_id_cmp x es ≡ true) = and_parts (is_lt (row_id_cmp x p.0)) (below_all row_id_cmp x es) h in
-    let off : hits t key (write_of p) ≡ false = sym (place_tied t key (write_of p)) ∙ ap is_eq (place_cmp_total.congr (t, key) x p.0 e) ∙ less_is (row_id_cmp x p.0) parts.0 in
+    let off : hits t key (write_of p) ≡ false = sym (row_id_tied t key (write_of p)) ∙ ap is_eq (row_ids_ordered.congr (t, key) x p.0 e) ∙ less_is (row_id_cmp x p.0) parts.0 in
     ap (λ y. last_row t key y (map write_of es)) (cond-false (hits t key (write_of p)) p.1 r off) ∙ none_behind t key x r es e parts.1
 
 -- of entries in order the last write is the one that is found
@@ -90,7 +90,7 @@ last_found : (t : ℕ) (key : Value) (r : Option RowOf) (es : Rows) → is_sorte
 last_found t key r [] h = refl
 last_found t key r (p ∷ es) h =
     let parts : (below_all row_id_cmp p.0 es ≡ true) × (is_sorted row_id_cmp es ≡ true) = and_parts (below_all row_id_cmp p.0 es) (is_sorted row_id_cmp es) h in
-    let same : eq_by_cmp row_id_cmp (t, key) p.0 ≡ hits t key (write_of p) = place_tied t key (write_of p) in
+    let same : eq_by_cmp row_id_cmp (t, key) p.0 ≡ hits t key (write_of p) = row_id_tied t key (write_of p) in
     ⊎_elim
     (λ (y : hits t key (write_of p) ≡ true).
     let tie : eq_by_cmp row_id_cmp (t, key) p.0 ≡ true = same ∙ y in
@@ -106,8 +106,8 @@ last_found t key r (p ∷ es) h =
 pub net_row : (t : ℕ) (key : Value) (r : Option RowOf) (ws : List Write) → last_row t key r (net ws) ≡ last_row t key r ws
 net_row t key r ws = last_found t key r (fold noted [] ws) (from_T (is_sorted row_id_cmp (fold noted [] ws)) (noted_sorted ws [] tt)) ∙ noted_row t key r ws []
 
-place_is : (x y : RowId) → row_id_cmp x y ≡ Equal → (x.0 ≡ y.0) × (x.1 ≡ y.1)
-place_is x y e =
+pub row_id_is : (x y : RowId) → row_id_cmp x y ≡ Equal → (x.0 ≡ y.0) × (x.1 ≡ y.1)
+row_id_is x y e =
     let both : (is_eq (nat_cmp x.0 y.0) && is_eq (value_cmp x.1 y.1)) ≡ true = tied_then (nat_cmp x.0 y.0) (value_cmp x.1 y.1) ∙ ap is_eq e in
     let parts : (is_eq (nat_cmp x.0 y.0) ≡ true) × (is_eq (value_cmp x.1 y.1) ≡ true) = and_parts (is_eq (nat_cmp x.0 y.0)) (is_eq (value_cmp x.1 y.1)) both in
     (eqb-true x.0 y.0 (sym (unsigned_tied x.0 y.0) ∙ parts.0), tied_is x.1 y.1 parts.1)
@@ -118,7 +118,7 @@ noted_here P w e es p h hs rest = go (row_id_cmp (w.table, w.key) e.0) refl
     go : (o : Ordering) → row_id_cmp (w.table, w.key) e.0 ≡ o → Each (λ e. P (write_of e)) (by_order o (((w.table, w.key), w.row) ∷ e ∷ es) ((e.0, w.row) ∷ es) (e ∷ noted es w))
     go Less f = (p, (h, hs))
     go Equal f =
-        let same : (w.table ≡ e.0.0) × (w.key ≡ e.0.1) = place_is (w.table, w.key) e.0 f in
+        let same : (w.table ≡ e.0.0) × (w.key ≡ e.0.1) = row_id_is (w.table, w.key) e.0 f in
         let is : w ≡ record { table = e.0.0; key = e.0.1; row = w.row } = λ i. record { table = same.0 i; key = same.1 i; row = w.row } in
         (subst P is p, hs)
     go Greater f = (h, rest)

@@ -27,7 +27,7 @@ use Rattle.sk_model.specs.EngineInvariant.{Good, Ordered}
 use Rattle.sk_model.proofs.Numbered.{filter-map, last_touched}
 use Rattle.sk_model.proofs.Reading.{own_versions, none_left}
 
-open_undecided : (st : VersionState) → is_open st ≡ true → is_undecided st ≡ true
+pub open_undecided : (st : VersionState) → is_open st ≡ true → is_undecided st ≡ true
 open_undecided Open e = refl
 open_undecided (Closed f) e = absurd (false≢true e)
 open_undecided (Stamped n) e = absurd (false≢true e)
@@ -52,10 +52,10 @@ no_own_row tx t key x vs e =
 row_last : (t : ℕ) (key : Value) (x : Option RowOf) (ws : List Write) (w : Write) → last_row t key x (ws ++ w ∷ []) ≡ cond (hits t key w) w.row (last_row t key x ws)
 row_last t key x ws w = fold-append (λ r w. cond (hits t key w) w.row r) x ws (w ∷ [])
 
-own_cons : (tx : Label) (v : Version) (vs : List Version) → is_own tx v ≡ true → own_writes_of tx (v ∷ vs) ≡ v.write ∷ own_writes_of tx vs
+pub own_cons : (tx : Label) (v : Version) (vs : List Version) → is_own tx v ≡ true → own_writes_of tx (v ∷ vs) ≡ v.write ∷ own_writes_of tx vs
 own_cons tx v vs e = ap (map (λ (v : Version). v.write)) (cond-true (is_own tx v) (v ∷ filter (is_own tx) vs) (filter (is_own tx) vs) e)
 
-own_skip : (tx : Label) (v : Version) (vs : List Version) → is_own tx v ≡ false → own_writes_of tx (v ∷ vs) ≡ own_writes_of tx vs
+pub own_skip : (tx : Label) (v : Version) (vs : List Version) → is_own tx v ≡ false → own_writes_of tx (v ∷ vs) ≡ own_writes_of tx vs
 own_skip tx v vs e = ap (map (λ (v : Version). v.write)) (cond-false (is_own tx v) (v ∷ filter (is_own tx) vs) (filter (is_own tx) vs) e)
 
 -- a Put of the transaction: its own writes go on by that write, row by row

@@ -15,8 +15,12 @@ pub mod Resembling
 pub mod Journal
 pub mod Calls
 pub mod Stamped
+pub mod Talks
 pub mod Halves
 pub mod EngineInvariant
 pub mod EngineLaws
 pub mod Replies
 pub mod Sorts
+pub mod Asking
+pub mod RecordTalks
+pub mod Shapes

@@ -2,6 +2,7 @@
 
 ghost use Rattle.sk_model.specs.EngineLaws.{JournalGrows, RowsFit, VersionsRise, ReadsSnapshot, OwnWrites, StampedAreCommits, StampedAtSnapshot};
 ghost use Rattle.sk_model.specs.Halves.{PartsAreCommits, HalvesAreCommits};
+ghost use Rattle.sk_model.specs.Shapes.{RepliesAreTold, WritesArePuts};
 
 /// A legal journal with one more right reply is legal.
 pub fn journal_grows()
@@ -46,4 +47,14 @@ pub fn parts_are_commits()
 /// Commits with the numbers of both engines, of which what an engine stamped are the halves, are that engine's commits.
 pub fn halves_are_commits()
     ensures { HalvesAreCommits }
+{}
+
+/// Where a record's engine calls are its own, its replies are those of each database that these calls show.
+pub fn replies_are_told()
+    ensures { RepliesAreTold }
+{}
+
+/// Where it committed, what its statements wrote is what it put.
+pub fn writes_are_puts()
+    ensures { WritesArePuts }
 {}

@@ -21,8 +21,9 @@ pub use engine::EngineName;
 pub use journal::{HorizonRun, Journal, JournalPart, JournalWriter};
 pub use label::Label;
 pub use laws::{
-    halves_are_commits, journal_grows, own_writes, parts_are_commits, reads_snapshot, rows_fit,
-    stamped_are_commits, stamped_at_snapshot, versions_rise,
+    halves_are_commits, journal_grows, own_writes, parts_are_commits, reads_snapshot,
+    replies_are_told, rows_fit, stamped_are_commits, stamped_at_snapshot, versions_rise,
+    writes_are_puts,
 };
 pub use outcome::{Outcome, PlaceList};
 pub use point::{Point, PointList, Recycled};

@@ -23,7 +23,7 @@ use Rattle.sk_plain.specs.Playing.{start, hear, select, snapshot_for, with_write
 use Rattle.sk_plain.specs.Session as session
 use Rattle.sk_plain.specs.Session.{answer_at}
 use Rattle.sk_plain.specs.Standing.{Live, Standing, is_stored, store_count, may_use, started, heard, answered, selected, snapshot_taken, with_live}
-use Rattle.sk_plain.proofs.Answering.{Writes, answer_writes}
+use Rattle.sk_model.proofs.Answered.{Writes, answer_writes}
 use Rattle.sk_plain.proofs.Keeping.{kept_live, desk_with, desk_at, turn_of}
 use Rattle.sk_plain.proofs.Noting.{Inside, noted_before, before_all_is}
 use Rattle.sk_plain.proofs.Sound.{Sound, sound_heard, sound_selected, sound_answered}

@@ -13,7 +13,7 @@ use Rattle.sk_model.specs.declared.commit.Write.{Write}
 use Rattle.sk_model.specs.Calls.{last_row}
 use Rattle.sk_model.specs.Database.{RowOf, Tables, RowId, row_id_cmp, hits, row_of, after_writes, noted, net, write_of}
 use Rattle.sk_model.proofs.Lookups.{Sorted, same_table, row_after_writes, length_after_writes, sorted_after_writes, hits_is}
-use Rattle.sk_model.proofs.Nets.{place_cmp_total, net_row}
+use Rattle.sk_model.proofs.Nets.{row_ids_ordered, net_row}
 use Rattle.sk_plain.specs.Before.{PlacedRows}
 
 -- tables in order with the same rows are equal
@@ -52,12 +52,12 @@ noted_row : (ws : List Write) (es : PlacedRows) (t : ℕ) (q : Value) (o : Optio
 noted_row [] es t q o = refl
 noted_row (w ∷ ws) es t q o =
     noted_row ws (noted es w) t q o
-    ∙ ap (λ f. last_row t q (or_had f o) ws) (find-put row_id_cmp place_cmp_total (t, q) (w.table, w.key) w.row es ∙ ap (λ b. cond b (Some w.row) (find row_id_cmp (t, q) es)) (ties t q w))
+    ∙ ap (λ f. last_row t q (or_had f o) ws) (find-put row_id_cmp row_ids_ordered (t, q) (w.table, w.key) w.row es ∙ ap (λ b. cond b (Some w.row) (find row_id_cmp (t, q) es)) (ties t q w))
     ∙ ap (λ r. last_row t q r ws) (or_cond (hits t q w) w.row (find row_id_cmp (t, q) es) o)
 
 pub noted_sorted : (ws : List Write) (es : PlacedRows) → T (is_sorted row_id_cmp es) → T (is_sorted row_id_cmp (fold noted es ws))
 noted_sorted [] es h = h
-noted_sorted (w ∷ ws) es h = noted_sorted ws (noted es w) (is_sorted-put row_id_cmp place_cmp_total (w.table, w.key) w.row es h)
+noted_sorted (w ∷ ws) es h = noted_sorted ws (noted es w) (is_sorted-put row_id_cmp row_ids_ordered (w.table, w.key) w.row es h)
 
 -- a row after these writes is what was noted of it, or what it was
 pub row_after : (base : Tables) (ws : List Write) (t : ℕ) (q : Value) → t < length base → row_of (after_writes base ws) t q ≡ or_had (find row_id_cmp (t, q) (fold noted [] ws)) (row_of base t q)

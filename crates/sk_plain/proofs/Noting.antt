@@ -14,7 +14,7 @@ use Rattle.std.proofs.lemmas.List.Sums.{fold-append}
 use Rattle.sk_model.specs.declared.commit.Write.{Write}
 use Rattle.sk_model.specs.Database.{RowOf, Tables, RowId, row_id_cmp, noted, row_of, after_write, after_writes}
 use Rattle.sk_plain.specs.Before.{PlacedRows, with_before, before_all}
-use Rattle.sk_model.proofs.Nets.{place_cmp_total}
+use Rattle.sk_model.proofs.Nets.{row_ids_ordered}
 use Rattle.sk_plain.proofs.Agreeing.{AllOf}
 use Rattle.sk_plain.proofs.NetWrites.{same_place, or_had, noted_sorted, row_after}
 
@@ -32,7 +32,7 @@ none_found : (p x : RowId) (es : PlacedRows) → row_id_cmp p x ≡ Less → T (
 none_found p x [] less h = refl
 none_found p x (e ∷ es) less h =
     let hs : T (is_lt (row_id_cmp x e.0)) × T (below_all row_id_cmp x es) = parts (is_lt (row_id_cmp x e.0)) (below_all row_id_cmp x es) h in
-    let lower : row_id_cmp p e.0 ≡ Less = place_cmp_total.trans p x e.0 less (lesser (row_id_cmp x e.0) hs.0) in
+    let lower : row_id_cmp p e.0 ≡ Less = row_ids_ordered.trans p x e.0 less (lesser (row_id_cmp x e.0) hs.0) in
     ap (λ o. cond (is_eq o) (Some e.1) (find row_id_cmp p es)) lower ∙ none_found p x es less hs.1
 
 -- a noted row as it was

@@ -12,7 +12,7 @@ use Rattle.sk_model.specs.declared.commit.Write.{Write}
 use Rattle.sk_model.specs.Database.{RowOf, Tables, RowId, row_id_cmp, hits, noted, net, write_of, row_of, after_writes}
 use Rattle.sk_model.specs.Calls.{last_row}
 use Rattle.sk_model.proofs.Lookups.{Sorted, row_after_writes, length_after_writes, sorted_after_writes, hits_is}
-use Rattle.sk_model.proofs.Nets.{place_cmp_total, net_row, each_net}
+use Rattle.sk_model.proofs.Nets.{row_ids_ordered, net_row, each_net}
 use Rattle.sk_plain.specs.Before.{PlacedRows, writes_at}
 use Rattle.sk_plain.proofs.NetWrites.{same_tables, or_had, noted_sorted, row_after}
 use Rattle.sk_plain.proofs.Noting.{Inside, parts, as_was, noted_before, lesser}
@@ -58,7 +58,7 @@ undone base ws h =
 
 -- a place above is not tied
 above : (x y : RowId) → row_id_cmp x y ≡ Less → is_eq (row_id_cmp y x) ≡ false
-above x y less = ap is_eq (place_cmp_total.antisymm y x ∙ ap ordering_reverse less)
+above x y less = ap is_eq (row_ids_ordered.antisymm y x ∙ ap ordering_reverse less)
 
 -- each of these entries is found in a list
 abbrev FoundIn : PlacedRows → PlacedRows → Type 0
@@ -74,7 +74,7 @@ found_each : (es : PlacedRows) → T (is_sorted row_id_cmp es) → FoundIn es es
 found_each [] h = tt
 found_each (e ∷ es) h =
     let hs : T (below_all row_id_cmp e.0 es) × T (is_sorted row_id_cmp es) = parts (below_all row_id_cmp e.0 es) (is_sorted row_id_cmp es) h in
-    (ap (λ o. cond (is_eq o) (Some e.1) (find row_id_cmp e.0 es)) (tied_itself place_cmp_total e.0), found_behind e es es hs.0 (found_each es hs.1))
+    (ap (λ o. cond (is_eq o) (Some e.1) (find row_id_cmp e.0 es)) (tied_itself row_ids_ordered e.0), found_behind e es es hs.0 (found_each es hs.1))
 
 -- what the tables have of noted rows is what was noted
 written_at : (base : Tables) (ws : List Write) (es : PlacedRows) → FoundIn (fold noted [] ws) es → Inside (length base) (map write_of es) → writes_at (after_writes base ws) (map (as_was base) es) ≡ map write_of es
