@@ -4,7 +4,7 @@ ghost use Rattle.std.specs.Prelude.{◌≡◌, ◌+◌, ◌<◌, IfSome, IfNone}
 ghost use Rattle.sk_rows.specs.Values.{encoded_len};
 ghost use Rattle.sk_model.specs.Replies.{has_room as has_room_of};
 
-use sk_rows::Value;
+use sk_rows::{LONGEST_ROW, Value};
 
 /// What is left of the room behind a value, where it fits.
 fn room_behind(value: &Value, room: usize) -> Option<usize>
@@ -25,7 +25,7 @@ fn room_behind(value: &Value, room: usize) -> Option<usize>
 pub(crate) fn has_room(values: &[Value]) -> bool
     ensures { result ≡ has_room_of values.now }
 {
-    let mut room: usize = 1024;
+    let mut room: usize = LONGEST_ROW;
     for value in values {
         match room_behind(value, room) {
             None => return false,

@@ -11,6 +11,7 @@ use Rattle.sk_lex.specs.declared.token.Keyword.{Keyword}
 use Rattle.sk_lex.specs.declared.token.Keyword.TheVariants as key
 use Rattle.sk_lex.specs.declared.token.Word.{Word}
 use Rattle.sk_lex.specs.declared.token.Word.TheVariants as word
+use Rattle.sk_lex.specs.Marks as mark
 
 abbrev pub Text : Type 0
 Text = List ℕ
@@ -42,7 +43,7 @@ abbrev pub is_in : Class → ℕ → Bool
 is_in class.Letters b = is_letter b || is_digit b
 is_in class.Digits b = is_digit b
 is_in class.Printable b = is_printable b
-is_in class.Quote b = b == 39
+is_in class.Quote b = b == mark.quote
 
 -- how many bytes of the class stand at the front
 unfoldable pub run : Class → Text → ℕ
@@ -122,8 +123,8 @@ number_at z = let n = run class.Digits z in number_of n (number (take n z))
 abbrev pub text_from : Bool → Text → ℕ → Text → Option (Text × ℕ)
 text_from false found at [] = None
 text_from true found at [] = Some (found, at)
-text_from false found at (b ∷ z) = if b == 39 then text_from true found (at + 1) z else text_from false (found ++ b ∷ []) (at + 1) z
-text_from true found at (b ∷ z) = if b == 39 then text_from false (found ++ 39 ∷ []) (at + 1) z else Some (found, at)
+text_from false found at (b ∷ z) = if b == mark.quote then text_from true found (at + 1) z else text_from false (found ++ b ∷ []) (at + 1) z
+text_from true found at (b ∷ z) = if b == mark.quote then text_from false (found ++ mark.quote ∷ []) (at + 1) z else Some (found, at)
 
 abbrev pub text_of : Text → Option (Text × ℕ) → Found
 text_of z None = Err misfit.Open
@@ -136,10 +137,10 @@ text_at (b ∷ z) = text_of z (text_from false [] 1 z)
 -- ---- marks
 
 unfoldable pub is_single : ℕ → Bool
-is_single b = (nat_le 40 b && nat_le b 45) || (nat_le 58 b && nat_le b 62)
+is_single b = (nat_le mark.open b && nat_le b mark.minus) || (nat_le mark.colon b && nat_le b mark.greater)
 
 unfoldable pub is_pair : ℕ → ℕ → Bool
-is_pair b c = (b == 60 && (c == 61 || c == 62)) || (b == 62 && c == 61)
+is_pair b c = (b == mark.less && (c == mark.equals || c == mark.greater)) || (b == mark.greater && c == mark.equals)
 
 abbrev pub first : Text → ℕ
 first [] = 0
@@ -147,7 +148,7 @@ first (b ∷ z) = b
 
 unfoldable pub mark_at : Text → Found
 mark_at [] = Err (misfit.Bad 0)
-mark_at (b ∷ z) = if is_pair b (first z) then Ok (word.Mark b (first z), 2) else if is_single b then Ok (word.Mark b 0, 1) else Err (misfit.Bad 0)
+mark_at (b ∷ z) = if is_pair b (first z) then Ok (word.Mark b (first z), 2) else if is_single b then Ok (word.Mark b mark.none, 1) else Err (misfit.Bad 0)
 
 -- The token at the front of these bytes, and its length. A word is a run of letters and digits that begins with no digit.
 unfoldable pub front : Text → Found

@@ -8,13 +8,14 @@ use Rattle.sk_lex.specs.declared.token.Keyword.TheVariants as key
 use Rattle.sk_lex.specs.declared.token.Word.{Word}
 use Rattle.sk_lex.specs.declared.token.Word.TheVariants as word
 use Rattle.sk_lex.specs.Front.{Text, amount, begins, first, is_in, is_pair, is_single, keyword}
+use Rattle.sk_lex.specs.Marks as mark
 
 -- a quote in a text is written twice
 abbrev pub quoted : ℕ → Text
-quoted b = if b == 39 then 39 ∷ 39 ∷ [] else b ∷ []
+quoted b = if b == mark.quote then mark.quote ∷ mark.quote ∷ [] else b ∷ []
 
 abbrev pub quoted_text : Text → Text
-quoted_text t = 39 ∷ flat_map quoted t ++ 39 ∷ []
+quoted_text t = mark.quote ∷ flat_map quoted t ++ mark.quote ∷ []
 
 -- the second byte of a mark is 0 where there is one
 abbrev pub mark_text : ℕ → ℕ → Text

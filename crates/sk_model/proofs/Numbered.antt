@@ -1,5 +1,6 @@
 -- An engine's rows at a snapshot are the opening rows after its commits up to that snapshot.
 use Rattle.std.specs.Prelude.{ℕ, List, [], ◌∷◌, ◌++◌, Option, Some, None, Bool, true, false, cond, ◌&&◌, ◌==◌, ◌≡◌, ◌<◌, ◌≤◌, ◌-◌, nat_lt, nat_le, map, length}
+use Rattle.std.proofs.Math.Bool.{and_comm}
 use Rattle.std.proofs.Common.{refl, sym, ap, subst, ◌∙◌, ⊎_elim, arith}
 use Rattle.std.specs.List.{filter, flat_map}
 use Rattle.std.proofs.lemmas.Bool.{cases_lt, cond_both, cond-true, cond-false, and_parts, ltb-true, lt-ltb, le-leb, lt-leb, false≢true, cases_Bool}
@@ -130,19 +131,13 @@ abbrev raw : List Version → Option ℕ → List Write
 raw vs None = []
 raw vs (Some n) = writes_of (filter (is_stamped_with n) vs)
 
-and_swap : (a b : Bool) → (a && b) ≡ (b && a)
-and_swap true true = refl
-and_swap true false = refl
-and_swap false true = refl
-and_swap false false = refl
-
 stamp_test : (b : Bool) (n : ℕ) (st : VersionState) → (stamps n st && b) ≡ (b && there (◌==◌ n) (number_of st))
 stamp_test true n Open = refl
 stamp_test false n Open = refl
 stamp_test true n (Closed f) = refl
 stamp_test false n (Closed f) = refl
-stamp_test true n (Stamped m) = and_swap (n == m) true
-stamp_test false n (Stamped m) = and_swap (n == m) false
+stamp_test true n (Stamped m) = and_comm (n == m) true
+stamp_test false n (Stamped m) = and_comm (n == m) false
 stamp_test true n Dropped = refl
 stamp_test false n Dropped = refl
 

@@ -1,5 +1,6 @@
 -- What a transaction's undecided versions hold is what its Puts wrote.
 use Rattle.std.specs.Prelude.{ℕ, List, [], ◌∷◌, ◌++◌, Option, Bool, true, false, cond, not, ◌&&◌, ◌≡◌, ◌⊎◌, map}
+use Rattle.std.proofs.Math.Bool.{and_comm}
 use Rattle.std.proofs.Common.{refl, sym, ap, subst, ◌∙◌, inl, inr, ⊎_elim}
 use Rattle.std.specs.List.{filter}
 use Rattle.std.proofs.lemmas.List.{append-nil, append_assoc}
@@ -33,12 +34,6 @@ open_undecided (Closed f) e = absurd (false≢true e)
 open_undecided (Stamped n) e = absurd (false≢true e)
 open_undecided Dropped e = absurd (false≢true e)
 
-and_swap : (a b : Bool) → (a && b) ≡ (b && a)
-and_swap true true = refl
-and_swap true false = refl
-and_swap false true = refl
-and_swap false false = refl
-
 turned : {A B : Type 0} → A ⊎ B → B ⊎ A
 turned s = ⊎_elim inr inl s
 
@@ -47,7 +42,7 @@ no_own_row : (tx : Label) (t : ℕ) (key : Value) (x : Option RowOf) (vs : List 
 no_own_row tx t key x vs e =
     last_touched t key (own_writes_of tx vs) x
     ∙ ap (last_row t key x) (filter-map (hits t key) (λ (v : Version). v.write) (filter (is_own tx) vs)
-    ∙ ap (map (λ (v : Version). v.write)) (filter_twice (is_of t key) (is_own tx) (λ v. is_of t key v && is_own tx v) (λ v. and_swap (is_own tx v) (is_of t key v)) vs ∙ e))
+    ∙ ap (map (λ (v : Version). v.write)) (filter_twice (is_of t key) (is_own tx) (λ v. is_of t key v && is_own tx v) (λ v. and_comm (is_own tx v) (is_of t key v)) vs ∙ e))
 
 row_last : (t : ℕ) (key : Value) (x : Option RowOf) (ws : List Write) (w : Write) → last_row t key x (ws ++ w ∷ []) ≡ cond (hits t key w) w.row (last_row t key x ws)
 row_last t key x ws w = fold-append (λ r w. cond (hits t key w) w.row r) x ws (w ∷ [])

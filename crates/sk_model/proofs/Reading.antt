@@ -1,5 +1,6 @@
 -- What an engine shows of a row, by its versions, and what a read that was not Busy found.
 use Rattle.std.specs.Prelude.{ℕ, List, [], ◌∷◌, ◌++◌, Option, Some, None, Bool, true, false, cond, not, ◌&&◌, ◌==◌, ◌≡◌, ◌<◌, ◌≤◌, nat_lt, nat_le, length}
+use Rattle.std.proofs.Math.Bool.{and_comm}
 use Rattle.std.proofs.Common.{refl, sym, ap, ◌∙◌, ⊎_elim, arith}
 use Rattle.std.specs.List.{filter, flat_map, find}
 use Rattle.std.proofs.lemmas.Bool.{cases_lt, and_left, and_right, and_from, or_from, or_left, or_right, eq-eqb, lt-ltb, false≢true, cases_Bool}
@@ -117,17 +118,11 @@ seen_row e tx s t key o small =
     let shown : List Write = writes_of (filter (is_seen tx s) e.versions) in
     let parts : touched t key shown ≡ writes_of (seen_versions t key s e.versions) ++ writes_of (own_versions tx t key e.versions) =
     filter-map (hits t key) (λ (v : Version). v.write) (filter (is_seen tx s) e.versions)
-    ∙ ap (writes_of) (filter_twice (is_of t key) (is_seen tx s) (λ v. is_of t key v && is_seen tx s v) (λ v. and_swap (is_seen tx s v) (is_of t key v)) e.versions ∙ own_last tx t key s e.versions o)
+    ∙ ap (writes_of) (filter_twice (is_of t key) (is_seen tx s) (λ v. is_of t key v && is_seen tx s v) (λ v. and_comm (is_seen tx s v) (is_of t key v)) e.versions ∙ own_last tx t key s e.versions o)
     ∙ map-append (λ (v : Version). v.write) (seen_versions t key s e.versions) (own_versions tx t key e.versions) in
     row_after_writes e.rows shown t key small ∙ last_touched t key shown (row_of e.rows t key)
     ∙ ap (last_row t key (row_of e.rows t key)) parts
     ∙ fold-append (λ r w. cond (hits t key w) w.row r) (row_of e.rows t key) (writes_of (seen_versions t key s e.versions)) (writes_of (own_versions tx t key e.versions))
-  where
-    and_swap : (a b : Bool) → (a && b) ≡ (b && a)
-    and_swap true true = refl
-    and_swap true false = refl
-    and_swap false true = refl
-    and_swap false false = refl
 
 -- a read that was not Busy
 pub quiet_read : (e : EngineTable) (tx : Label) (t : ℕ) (key : Value) → Good e → is_standing (opening_of e tx) ≡ true
@@ -295,13 +290,7 @@ pub view_row : (db : Tables) (tx : Label) (t : ℕ) (key : Value) (vs : List Ver
 view_row db tx t key vs small =
     row_after_writes db (own_writes_of tx vs) t key small ∙ last_touched t key (own_writes_of tx vs) (row_of db t key)
     ∙ ap (last_row t key (row_of db t key)) (filter-map (hits t key) (λ (v : Version). v.write) (filter (is_own tx) vs)
-    ∙ ap (writes_of) (filter_twice (is_of t key) (is_own tx) (λ v. is_of t key v && is_own tx v) (λ v. and_swap (is_own tx v) (is_of t key v)) vs))
-  where
-    and_swap : (a b : Bool) → (a && b) ≡ (b && a)
-    and_swap true true = refl
-    and_swap true false = refl
-    and_swap false true = refl
-    and_swap false false = refl
+    ∙ ap (writes_of) (filter_twice (is_of t key) (is_own tx) (λ v. is_of t key v && is_own tx v) (λ v. and_comm (is_own tx v) (is_of t key v)) vs))
 
 pub length_state : (db : Tables) (cs : List Commit) → length (state db cs) ≡ length db
 length_state db cs = ap length (state_is db cs) ∙ length_after_writes db (flat_map (λ c. c.writes) cs)

@@ -7,6 +7,7 @@ use Rattle.sk_rows.specs.declared.table.Column.{Column}
 use Rattle.sk_rows.specs.declared.table.Table.{Table}
 use Rattle.sk_rows.specs.Typing.{same_sort}
 use Rattle.sk_rows.specs.Values.{value_cmp, sort_of}
+use Rattle.sk_rows.specs.Limits.{longest_text}
 use Rattle.sk_model.specs.declared.label.Label.{Label}
 use Rattle.sk_model.specs.declared.call.EngineCall.{EngineCall}
 use Rattle.sk_model.specs.declared.call.EngineCall.TheVariants as call
@@ -39,10 +40,10 @@ floor_of (Some o) = number_or 0 o.floor
 abbrev pub has_table : EngineTable → ℕ → Bool
 has_table e t = nat_lt t (length e.rows) && keeps e.name e.catalog t
 
--- a text has at most 255 bytes
+-- a text is not too long
 abbrev pub is_short : Value → Bool
 is_short (value.Int n) = true
-is_short (value.Text t) = nat_le (length t) 255
+is_short (value.Text t) = nat_le (length t) longest_text
 is_short (value.Bool b) = true
 
 abbrev pub are_short : List Value → Bool

@@ -1,6 +1,10 @@
 -- Numbers that may be there, and lists in which they rise.
 use Rattle.std.specs.Prelude.{◌≡◌, ℕ, ◌<◌, List, [], ◌∷◌, Option, Some, None, Bool, false, ◌&&◌, nat_lt, nat_le}
 
+-- the greatest number of an engine
+abbrev pub greatest_number : ℕ
+greatest_number = 2147483647
+
 -- a number that passes the test is there
 abbrev pub there : (ℕ → Bool) → Option ℕ → Bool
 there test None = false

@@ -14,6 +14,7 @@ use Rattle.sk_rows.specs.declared.statement.Statement.TheVariants as statement
 use Rattle.sk_rows.specs.declared.faults.ValueFault.{ValueFault}
 use Rattle.sk_rows.specs.Values.{encoded_len}
 use Rattle.sk_rows.specs.Evaluation.{◌>>=◌}
+use Rattle.sk_rows.specs.Limits.{longest_row}
 use Rattle.sk_model.specs.declared.commit.Write.{Write}
 use Rattle.sk_model.specs.declared.reply.ErrWord.{ErrWord}
 use Rattle.sk_model.specs.declared.reply.ErrWord.TheVariants as err
@@ -39,9 +40,9 @@ row_put t r = record { table = t; key = r.0; row = Some r.1 }
 abbrev pub row_gone : ℕ → Value × RowOf → Write
 row_gone t r = record { table = t; key = r.0; row = None }
 
--- at most 1024 bytes in a file
+-- it is not too long for a file
 abbrev pub has_room : RowOf → Bool
-has_room row = nat_le (sum_by encoded_len row) 1024
+has_room row = nat_le (sum_by encoded_len row) longest_row
 
 abbrev pub key_of : RowOf → Value
 key_of row = get_or row 0 (value.Bool false)

@@ -6,3 +6,6 @@ pub enum EngineName {
     Mem,
     Store,
 }
+
+/// The greatest number of an engine: behind it a counter is spent.
+pub const GREATEST_NUMBER: u32 = 2_147_483_647;

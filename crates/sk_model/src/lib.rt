@@ -17,7 +17,7 @@ mod tables;
 
 pub use call::{EngineCall, EngineFault, EngineReply, Entry};
 pub use commit::{Commit, CommitList, Write, WriteList};
-pub use engine::EngineName;
+pub use engine::{EngineName, GREATEST_NUMBER};
 pub use journal::{HorizonRun, Journal, JournalPart, JournalWriter};
 pub use label::Label;
 pub use laws::{

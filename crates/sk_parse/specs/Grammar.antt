@@ -3,6 +3,7 @@ use Rattle.std.specs.Prelude.{ℕ, zero, suc, Bool, true, false, if◌then◌els
 use Rattle.sk_lex.specs.declared.token.Keyword.TheVariants as key
 use Rattle.sk_lex.specs.declared.token.Word.{Word}
 use Rattle.sk_lex.specs.declared.token.Word.TheVariants as word
+use Rattle.sk_lex.specs.Marks as mark
 use Rattle.sk_rows.specs.declared.expr.Op.{Op}
 use Rattle.sk_rows.specs.declared.expr.Expr.{Expr}
 use Rattle.sk_rows.specs.declared.expr.Expr.TheVariants as e
@@ -11,6 +12,7 @@ use Rattle.sk_parse.specs.declared.terms.Level.{Level}
 use Rattle.sk_parse.specs.declared.terms.Level.TheVariants as level
 use Rattle.sk_parse.specs.Input.{Parser, ◌>>=◌, ◌>>◌, ◌<$>◌, pure, refuse, first, next, sees, expect}
 use Rattle.sk_parse.specs.Terms.{name, literal, grouping, comparison}
+use Rattle.sk_parse.specs.Limits.{most_nested}
 
 -- the operator at the front
 abbrev pub found_by : (Word → Option Op) → Option Word → Option Op
@@ -47,15 +49,15 @@ is_column _ = false
 
 unfoldable pub in_parens : Parser Expr → Parser Expr
 in_parens expr = do
-  expect (sign.Mark 40 0)
+  expect (sign.Mark mark.open mark.none)
   inner ← expr
-  expect (sign.Mark 41 0)
+  expect (sign.Mark mark.close mark.none)
   pure inner
 
 -- the parser of what stands in parentheses, with these
 unfoldable pub atom_over : Parser Expr → Parser Expr
 atom_over parens = λ i.
-    if sees (sign.Mark 40 0) i then parens i
+    if sees (sign.Mark mark.open mark.none) i then parens i
     else if is_column (first i) then (e.Col <$> name) i
     else (e.Lit <$> literal) i
 
@@ -94,4 +96,4 @@ chain_at l n = chained (grouping l) (operand_at l n)
 
 -- as deep as statements allow
 abbrev pub expr : Parser Expr
-expr = chain_at level.Or 64
+expr = chain_at level.Or most_nested

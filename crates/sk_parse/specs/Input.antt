@@ -5,6 +5,7 @@ use Rattle.sk_lex.specs.contracts.token.Keyword.{the_type}
 use Rattle.sk_lex.specs.declared.token.Keyword.{Keyword}
 use Rattle.sk_lex.specs.declared.token.Word.{Word}
 use Rattle.sk_lex.specs.declared.token.Word.TheVariants as word
+use Rattle.sk_lex.specs.Marks as mark
 use Rattle.sk_parse.specs.declared.cursor.Sign.{Sign}
 use Rattle.sk_parse.specs.declared.cursor.Sign.TheVariants as sign
 use Rattle.sk_parse.specs.declared.fault.Fault.{Fault}
@@ -99,7 +100,7 @@ taken f = λ i. take_by f (first i) i
 unfoldable pub listed_from : {A : Type 0} → Parser A → ℕ → List A → Parser (List A)
 listed_from item zero found = pure found
 listed_from item (suc n) found = do
-  more ← eat (sign.Mark 44 0)
+  more ← eat (sign.Mark mark.comma mark.none)
   if more then (do x ← item; listed_from item n (found ++ x ∷ [])) else pure found
 
 -- one or more, with commas between

@@ -4,6 +4,7 @@ use Rattle.std.specs.List.{list_all}
 use Rattle.sk_lex.specs.declared.token.Keyword.TheVariants as key
 use Rattle.sk_lex.specs.declared.token.Word.{Word}
 use Rattle.sk_lex.specs.declared.token.Word.TheVariants as word
+use Rattle.sk_lex.specs.Marks as mark
 use Rattle.sk_rows.specs.Names.{is_name}
 use Rattle.sk_rows.specs.Text.{are_printable}
 use Rattle.sk_rows.specs.declared.value.Value.{Value}
@@ -18,8 +19,10 @@ use Rattle.sk_rows.specs.declared.statement.Begun.TheVariants as begun
 use Rattle.sk_rows.specs.declared.statement.SetItem.{SetItem}
 use Rattle.sk_rows.specs.declared.statement.Statement.{Statement}
 use Rattle.sk_rows.specs.declared.statement.Statement.TheVariants as st
+use Rattle.sk_rows.specs.Limits.{longest_text}
 use Rattle.sk_parse.specs.Grammar.{expr}
 use Rattle.sk_parse.specs.Statements.{whole}
+use Rattle.sk_parse.specs.Limits.{most_nested}
 
 -- The rules are counted from the outermost: 0 expr, 1 conj, 2 neg, 3 comp, 4 sum, 5 prod, 6 atom.
 -- the rule that has the operator
@@ -49,26 +52,26 @@ right_at _ = 4
 abbrev pub op_word : Op → Word
 op_word op.Or = word.Key key.Or
 op_word op.And = word.Key key.And
-op_word op.Eq = word.Mark 61 0
-op_word op.Ne = word.Mark 60 62
-op_word op.Lt = word.Mark 60 0
-op_word op.Le = word.Mark 60 61
-op_word op.Gt = word.Mark 62 0
-op_word op.Ge = word.Mark 62 61
-op_word op.Add = word.Mark 43 0
-op_word op.Sub = word.Mark 45 0
-op_word op.Mul = word.Mark 42 0
+op_word op.Eq = word.Mark mark.equals mark.none
+op_word op.Ne = word.Mark mark.less mark.greater
+op_word op.Lt = word.Mark mark.less mark.none
+op_word op.Le = word.Mark mark.less mark.equals
+op_word op.Gt = word.Mark mark.greater mark.none
+op_word op.Ge = word.Mark mark.greater mark.equals
+op_word op.Add = word.Mark mark.plus mark.none
+op_word op.Sub = word.Mark mark.minus mark.none
+op_word op.Mul = word.Mark mark.star mark.none
 
 abbrev pub literal_words : Value → List Word
 literal_words (value.Int (pos n)) = word.Number n ∷ []
-literal_words (value.Int (negsuc n)) = word.Mark 45 0 ∷ word.Number (suc n) ∷ []
+literal_words (value.Int (negsuc n)) = word.Mark mark.minus mark.none ∷ word.Number (suc n) ∷ []
 literal_words (value.Text t) = word.Text t ∷ []
 literal_words (value.Bool true) = word.Key key.True ∷ []
 literal_words (value.Bool false) = word.Key key.False ∷ []
 
 -- parentheses, where they are asked for
 abbrev pub wrapped : Bool → List Word → List Word
-wrapped asked ws = if asked then word.Mark 40 0 ∷ ws ++ word.Mark 41 0 ∷ [] else ws
+wrapped asked ws = if asked then word.Mark mark.open mark.none ∷ ws ++ word.Mark mark.close mark.none ∷ [] else ws
 
 -- by the rule at whose place it stands
 abbrev pub print_step : Expr-F (ℕ → List Word) → ℕ → List Word
@@ -104,7 +107,7 @@ is_int (pos n) = nat_lt n 9223372036854775808
 is_int (negsuc n) = nat_lt n 9223372036854775808
 
 unfoldable pub is_text : List ℕ → Bool
-is_text t = nat_le (length t) 255 && are_printable t
+is_text t = nat_le (length t) longest_text && are_printable t
 
 abbrev pub is_literal : Value → Bool
 is_literal (value.Int z) = is_int z
@@ -123,14 +126,14 @@ can_be_spelled = fold-Expr Bool spelled_step
 
 -- what is printed is read as the expression, to its end
 abbrev pub IsReadBack : Type 0
-IsReadBack = (x : Expr) → can_be_spelled x ≡ true → nesting x 0 ≤ 64 → expr (printed x 0) ≡ Ok (x, [])
+IsReadBack = (x : Expr) → can_be_spelled x ≡ true → nesting x 0 ≤ most_nested → expr (printed x 0) ≡ Ok (x, [])
 
 -- ---- statements
 
 -- behind the first of a list
 abbrev pub more_words : {A : Type 0} → (A → List Word) → List A → List Word
 more_words f [] = []
-more_words f (x ∷ xs) = word.Mark 44 0 ∷ f x ++ more_words f xs
+more_words f (x ∷ xs) = word.Mark mark.comma mark.none ∷ f x ++ more_words f xs
 
 -- a list with commas between
 abbrev pub listed_words : {A : Type 0} → (A → List Word) → List A → List Word
@@ -141,7 +144,7 @@ abbrev pub name_words : List ℕ → List Word
 name_words t = word.Name t ∷ []
 
 abbrev pub set_words : SetItem → List Word
-set_words item = word.Name item.column ∷ word.Mark 61 0 ∷ printed item.value 0
+set_words item = word.Name item.column ∷ word.Mark mark.equals mark.none ∷ printed item.value 0
 
 abbrev pub cond_words : Option Expr → List Word
 cond_words None = []
@@ -153,7 +156,7 @@ begun_words begun.Mem = word.Key key.Memory ∷ []
 begun_words begun.Store = word.Key key.Storage ∷ []
 
 abbrev pub shown_words : Option (List (List ℕ)) → List Word
-shown_words None = word.Mark 42 0 ∷ []
+shown_words None = word.Mark mark.star mark.none ∷ []
 shown_words (Some names) = listed_words name_words names
 
 -- the words of a statement
@@ -162,15 +165,15 @@ said_words (st.Begin begun) = word.Key key.Begin ∷ begun_words begun
 said_words st.Commit = word.Key key.Commit ∷ []
 said_words st.Rollback = word.Key key.Rollback ∷ []
 said_words (st.Insert table values) =
-    word.Key key.Insert ∷ word.Key key.Into ∷ word.Name table ∷ word.Key key.Values ∷ word.Mark 40 0 ∷ listed_words literal_words values ++ word.Mark 41 0 ∷ []
+    word.Key key.Insert ∷ word.Key key.Into ∷ word.Name table ∷ word.Key key.Values ∷ word.Mark mark.open mark.none ∷ listed_words literal_words values ++ word.Mark mark.close mark.none ∷ []
 said_words (st.Select table columns cond) = word.Key key.Select ∷ shown_words columns ++ word.Key key.From ∷ word.Name table ∷ cond_words cond
 said_words (st.Update table sets cond) = word.Key key.Update ∷ word.Name table ∷ word.Key key.Set ∷ listed_words set_words sets ++ cond_words cond
 said_words (st.Delete table cond) = word.Key key.Delete ∷ word.Key key.From ∷ word.Name table ∷ cond_words cond
 
--- ---- what can be printed: names and literals of the grammar, no empty list, and at most 64 NOTs and parentheses open together
+-- ---- what can be printed: names and literals of the grammar, no empty list, and no more NOTs and parentheses than may be open together
 
 unfoldable pub is_expression : Expr → Bool
-is_expression e = can_be_spelled e && nat_le (nesting e 0) 64
+is_expression e = can_be_spelled e && nat_le (nesting e 0) most_nested
 
 abbrev pub is_condition : Option Expr → Bool
 is_condition None = true

@@ -3,6 +3,7 @@ use Rattle.std.specs.Prelude.{◌≡◌, ◌↔◌, ℕ, true, List, [], ◌∷�
 use Rattle.sk_lex.specs.declared.token.Keyword.TheVariants as key
 use Rattle.sk_lex.specs.declared.token.Word.{Word}
 use Rattle.sk_lex.specs.declared.token.Word.TheVariants as word
+use Rattle.sk_lex.specs.Marks as mark
 use Rattle.sk_rows.specs.declared.expr.Expr.{Expr}
 use Rattle.sk_rows.specs.declared.statement.Begun.{Begun}
 use Rattle.sk_rows.specs.declared.statement.Begun.TheVariants as begun
@@ -13,18 +14,19 @@ use Rattle.sk_rows.specs.Names.{is_name}
 use Rattle.sk_parse.specs.declared.terms.Level.TheVariants as level
 use Rattle.sk_parse.specs.Rules.{Derives, IsLiteral, Rule}
 use Rattle.sk_parse.specs.Statements.{whole}
+use Rattle.sk_parse.specs.Limits.{most_nested}
 
 abbrev pub IsName : List Word → List ℕ → Type 0
 IsName ws t = (ws ≡ word.Name t ∷ []) × (is_name t ≡ true)
 
--- expr, with at most 64 parentheses and NOTs open together
+-- expr, with no more parentheses and NOTs open together than may be
 abbrev pub IsExpr : List Word → Expr → Type 0
-IsExpr = Derives (Rule.Chain level.Or) 64
+IsExpr = Derives (Rule.Chain level.Or) most_nested
 
 -- { "," item }
 abbrev pub AreMore : {A : Type 0} → (List Word → A → Type 0) → List Word → List A → Type 0
 AreMore Item ws [] = ws ≡ []
-AreMore Item ws (x ∷ xs) = (us : List Word) × (vs : List Word) × (ws ≡ word.Mark 44 0 ∷ us ++ vs) × Item us x × AreMore Item vs xs
+AreMore Item ws (x ∷ xs) = (us : List Word) × (vs : List Word) × (ws ≡ word.Mark mark.comma mark.none ∷ us ++ vs) × Item us x × AreMore Item vs xs
 
 -- item { "," item }
 abbrev pub AreListed : {A : Type 0} → (List Word → A → Type 0) → List Word → List A → Type 0
@@ -44,12 +46,12 @@ IsBegun ws begun.Store = ws ≡ word.Key key.Storage ∷ []
 
 -- "*" | name { "," name }
 abbrev pub AreShown : List Word → Option (List (List ℕ)) → Type 0
-AreShown ws None = ws ≡ word.Mark 42 0 ∷ []
+AreShown ws None = ws ≡ word.Mark mark.star mark.none ∷ []
 AreShown ws (Some names) = AreListed IsName ws names
 
 -- name "=" expr
 abbrev pub IsSet : List Word → SetItem → Type 0
-IsSet ws item = (us : List Word) × (ws ≡ word.Name item.column ∷ word.Mark 61 0 ∷ us) × (is_name item.column ≡ true) × IsExpr us item.value
+IsSet ws item = (us : List Word) × (ws ≡ word.Name item.column ∷ word.Mark mark.equals mark.none ∷ us) × (is_name item.column ≡ true) × IsExpr us item.value
 
 -- statement
 abbrev pub Says : List Word → Statement → Type 0
@@ -57,7 +59,7 @@ Says ws (st.Begin b) = (us : List Word) × (ws ≡ word.Key key.Begin ∷ us) ×
 Says ws st.Commit = ws ≡ word.Key key.Commit ∷ []
 Says ws st.Rollback = ws ≡ word.Key key.Rollback ∷ []
 Says ws (st.Insert t values) =
-    (us : List Word) × (ws ≡ word.Key key.Insert ∷ word.Key key.Into ∷ word.Name t ∷ word.Key key.Values ∷ word.Mark 40 0 ∷ us ++ word.Mark 41 0 ∷ [])
+    (us : List Word) × (ws ≡ word.Key key.Insert ∷ word.Key key.Into ∷ word.Name t ∷ word.Key key.Values ∷ word.Mark mark.open mark.none ∷ us ++ word.Mark mark.close mark.none ∷ [])
     × (is_name t ≡ true) × AreListed IsLiteral us values
 Says ws (st.Select t columns c) =
     (us : List Word) × (vs : List Word) × (ws ≡ word.Key key.Select ∷ us ++ word.Key key.From ∷ word.Name t ∷ vs)

@@ -5,6 +5,7 @@ use Rattle.sk_lex.specs.declared.token.Token.{Token}
 use Rattle.sk_lex.specs.declared.token.Word.TheVariants as word
 use Rattle.sk_lex.specs.Scanning.{tokens}
 use Rattle.sk_lex.specs.Spelling.{digits, spaced}
+use Rattle.sk_lex.specs.Marks as mark
 use Rattle.sk_rows.specs.declared.value.Value.{Value}
 use Rattle.sk_rows.specs.declared.value.Value.TheVariants as value
 use Rattle.sk_rows.specs.declared.expr.Expr.{Expr}
@@ -23,14 +24,14 @@ abbrev pub front_digits : ℕ → ℕ → List ℕ
 front_digits k n = if nat_lt n 10 then [] else digits k (n / 10)
 
 abbrev pub opened : Bool → List ℕ
-opened asked = if asked then spaced (word.Mark 40 0) else []
+opened asked = if asked then spaced (word.Mark mark.open mark.none) else []
 
 abbrev pub closed : Bool → List ℕ
-closed asked = if asked then spaced (word.Mark 41 0) else []
+closed asked = if asked then spaced (word.Mark mark.close mark.none) else []
 
 abbrev pub literal_text : Value → List ℕ
 literal_text (value.Int (pos n)) = spaced (word.Number n)
-literal_text (value.Int (negsuc n)) = spaced (word.Mark 45 0) ++ spaced (word.Number (suc n))
+literal_text (value.Int (negsuc n)) = spaced (word.Mark mark.minus mark.none) ++ spaced (word.Number (suc n))
 literal_text (value.Text t) = spaced (word.Text t)
 literal_text (value.Bool true) = spaced (word.Key key.True)
 literal_text (value.Bool false) = spaced (word.Key key.False)
@@ -49,7 +50,7 @@ text = fold-Expr (ℕ → List ℕ) text_step
 -- behind the first of a list
 abbrev pub more_text : {A : Type 0} → (A → List ℕ) → List A → List ℕ
 more_text f [] = []
-more_text f (x ∷ xs) = spaced (word.Mark 44 0) ++ f x ++ more_text f xs
+more_text f (x ∷ xs) = spaced (word.Mark mark.comma mark.none) ++ f x ++ more_text f xs
 
 -- a list with commas between
 abbrev pub listed_text : {A : Type 0} → (A → List ℕ) → List A → List ℕ
@@ -60,7 +61,7 @@ abbrev pub name_text : List ℕ → List ℕ
 name_text t = spaced (word.Name t)
 
 abbrev pub set_text : SetItem → List ℕ
-set_text item = name_text item.column ++ spaced (word.Mark 61 0) ++ text item.value 0
+set_text item = name_text item.column ++ spaced (word.Mark mark.equals mark.none) ++ text item.value 0
 
 abbrev pub cond_text : Option Expr → List ℕ
 cond_text None = []
@@ -72,13 +73,13 @@ begun_text begun.Mem = spaced (word.Key key.Memory)
 begun_text begun.Store = spaced (word.Key key.Storage)
 
 abbrev pub shown_text : Option (List (List ℕ)) → List ℕ
-shown_text None = spaced (word.Mark 42 0)
+shown_text None = spaced (word.Mark mark.star mark.none)
 shown_text (Some names) = listed_text name_text names
 
 unfoldable pub insert_text : List ℕ → List Value → List ℕ
 insert_text table values =
     spaced (word.Key key.Insert) ++ spaced (word.Key key.Into) ++ name_text table ++ spaced (word.Key key.Values)
-    ++ spaced (word.Mark 40 0) ++ listed_text literal_text values ++ spaced (word.Mark 41 0)
+    ++ spaced (word.Mark mark.open mark.none) ++ listed_text literal_text values ++ spaced (word.Mark mark.close mark.none)
 
 unfoldable pub select_text : List ℕ → Option (List (List ℕ)) → Option Expr → List ℕ
 select_text table columns cond = spaced (word.Key key.Select) ++ shown_text columns ++ spaced (word.Key key.From) ++ name_text table ++ cond_text cond

@@ -3,6 +3,7 @@ use Rattle.std.specs.Prelude.{◌≤◌, ℕ, ◌+◌, ◌-◌, Bool, true, fals
 use Rattle.sk_lex.specs.declared.token.Keyword.{Keyword}
 use Rattle.sk_lex.specs.declared.token.Keyword.TheVariants as key
 use Rattle.sk_lex.specs.declared.token.Token.{Token}
+use Rattle.sk_lex.specs.Marks as mark
 use Rattle.sk_rows.specs.declared.expr.Expr.{Expr}
 use Rattle.sk_rows.specs.declared.statement.Begun.TheVariants as begun
 use Rattle.sk_rows.specs.declared.statement.SetItem.{SetItem}
@@ -39,14 +40,14 @@ insert = do
   expect (sign.Key key.Into)
   table ← name
   expect (sign.Key key.Values)
-  expect (sign.Mark 40 0)
+  expect (sign.Mark mark.open mark.none)
   values ← listed literal
-  expect (sign.Mark 41 0)
+  expect (sign.Mark mark.close mark.none)
   pure (st.Insert table values)
 
 unfoldable pub select_list : Parser (Option (List (List ℕ)))
 select_list = do
-  all ← eat (sign.Mark 42 0)
+  all ← eat (sign.Mark mark.star mark.none)
   if all then pure None else Some <$> listed name
 
 unfoldable pub select : Parser Statement
@@ -60,7 +61,7 @@ select = do
 unfoldable pub set_item : Parser SetItem
 set_item = do
   column ← name
-  expect (sign.Mark 61 0)
+  expect (sign.Mark mark.equals mark.none)
   value ← expr
   pure (record { column = column; value = value })
 

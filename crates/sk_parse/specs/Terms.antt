@@ -3,11 +3,13 @@ use Rattle.std.specs.Prelude.{ℕ, zero, suc, true, false, ◌&&◌, if◌then�
 use Rattle.sk_lex.specs.declared.token.Keyword.TheVariants as key
 use Rattle.sk_lex.specs.declared.token.Word.{Word}
 use Rattle.sk_lex.specs.declared.token.Word.TheVariants as word
+use Rattle.sk_lex.specs.Marks as mark
 use Rattle.sk_rows.specs.declared.expr.Op.{Op}
 use Rattle.sk_rows.specs.declared.expr.Op.TheVariants as op
 use Rattle.sk_rows.specs.declared.value.Value.{Value}
 use Rattle.sk_rows.specs.declared.value.Value.TheVariants as value
 use Rattle.sk_rows.specs.Names.{is_name}
+use Rattle.sk_rows.specs.Limits.{longest_text}
 use Rattle.sk_parse.specs.declared.cursor.Sign.TheVariants as sign
 use Rattle.sk_parse.specs.declared.terms.Level.{Level}
 use Rattle.sk_parse.specs.declared.terms.Level.TheVariants as level
@@ -31,7 +33,7 @@ abbrev pub negative_int : ℕ → Option Value
 negative_int n = if nat_le n 9223372036854775808 then Some (value.Int (minus n)) else None
 
 abbrev pub text_of : List ℕ → Option Value
-text_of t = if nat_le (length t) 255 then Some (value.Text t) else None
+text_of t = if nat_le (length t) longest_text then Some (value.Text t) else None
 
 -- a literal of one word
 abbrev pub value_of : Word → Option Value
@@ -54,7 +56,7 @@ negative = taken negative_of
 
 unfoldable pub literal : Parser Value
 literal = do
-  is_negative ← eat (sign.Mark 45 0)
+  is_negative ← eat (sign.Mark mark.minus mark.none)
   if is_negative then negative else plain
 
 abbrev pub sum_op : ℕ → Option Op

@@ -7,14 +7,11 @@ ghost use Rattle.sk_parse.specs.Grammar as spec;
 
 use crate::cursor::{Cursor, Sign};
 use crate::fault::Fault;
+use crate::marks::{CLOSE, OPEN};
 use crate::terms::{Level, comparison, grouping, literal, name};
 use sk_lex::{Keyword, Word};
 use sk_rows::{Boxed, Expr, NoMemory, Op};
 use std::alloc::Global;
-
-const OPEN: Sign = Sign::Mark(40, 0);
-
-const CLOSE: Sign = Sign::Mark(41, 0);
 
 /// How many parentheses and NOTs may be open together.
 pub const NESTING: usize = 64;

@@ -4,13 +4,12 @@ ghost use Rattle.std.specs.Prelude.{◌≡◌};
 ghost use Rattle.sk_parse.specs.Input.{Reads};
 ghost use Rattle.sk_parse.specs.Input as spec;
 
-use crate::cursor::{Cursor, Sign};
+use crate::cursor::Cursor;
 use crate::fault::Fault;
+use crate::marks::COMMA;
 use crate::terms::{literal, name};
 use sk_rows::{List, Txt, Value};
 use std::alloc::Global;
-
-const COMMA: Sign = Sign::Mark(44, 0);
 
 /// What can stand in a list.
 pub trait Parses: Drop {

@@ -5,17 +5,15 @@ ghost use Rattle.std.specs.List.{list_all};
 ghost use Rattle.sk_rows.specs.Names.{is_name as is_name_of};
 ghost use Rattle.sk_parse.specs.Printed as spec;
 
+use crate::expression::NESTING;
 use crate::printing::{left_at, right_at, strength};
-use sk_rows::{Expr, NameList, Op, SetItem, Statement, Txt, Value, is_name};
-
-/// How many NOTs and parentheses may be open together.
-const NESTING: usize = 64;
+use sk_rows::{Expr, LONGEST_TEXT, NameList, Op, SetItem, Statement, Txt, Value, is_name};
 
 #[tactic(auto, using(crate::proofs::Written::are_printable_of))]
 fn is_short(text: &Txt) -> bool
     ensures { result ≡ spec.is_text text.now }
 {
-    text.as_slice().len() <= 255
+    text.as_slice().len() <= LONGEST_TEXT
 }
 
 /// Each number of 64 bits is a literal of the grammar.

@@ -10,6 +10,7 @@ use crate::cursor::{Cursor, Sign};
 use crate::expression::expr;
 use crate::fault::{Fault, ParseFault};
 use crate::listed::{Parses, listed};
+use crate::marks::{CLOSE, EQUALS, OPEN, STAR};
 use crate::terms::name;
 use sk_lex::{Keyword, Token};
 use sk_rows::{Begun, Expr, NameList, SetItem, Statement, Txt};
@@ -52,9 +53,9 @@ fn insert(alloc: Global, cursor: &mut Cursor<'_>) -> Result<Statement, Fault>
     cursor.expect(key(Keyword::Into))?;
     let table = name(alloc, cursor)?;
     cursor.expect(key(Keyword::Values))?;
-    cursor.expect(Sign::Mark(40, 0))?;
+    cursor.expect(OPEN)?;
     let values = listed(alloc, cursor)?;
-    cursor.expect(Sign::Mark(41, 0))?;
+    cursor.expect(CLOSE)?;
     Ok(Statement::Insert { table, values })
 }
 
@@ -62,7 +63,7 @@ fn insert(alloc: Global, cursor: &mut Cursor<'_>) -> Result<Statement, Fault>
 fn select_list(alloc: Global, cursor: &mut Cursor<'_>) -> Result<Option<NameList>, Fault>
     ensures { Reads (spec.select_list cursor.old) result cursor.new }
 {
-    if cursor.eat(Sign::Mark(42, 0)) {
+    if cursor.eat(STAR) {
         Ok(None)
     } else {
         Ok(Some(listed(alloc, cursor)?))
@@ -89,7 +90,7 @@ fn set_item(alloc: Global, cursor: &mut Cursor<'_>) -> Result<SetItem, Fault>
     ensures { Reads (spec.set_item cursor.old) result cursor.new }
 {
     let column = name(alloc, cursor)?;
-    cursor.expect(Sign::Mark(61, 0))?;
+    cursor.expect(EQUALS)?;
     let value = expr(alloc, cursor)?;
     Ok(SetItem { column, value })
 }

@@ -4,10 +4,11 @@ ghost use Rattle.std.specs.Prelude.{◌≡◌, IfOk};
 ghost use Rattle.sk_parse.specs.Input.{Reads};
 ghost use Rattle.sk_parse.specs.Terms as spec;
 
-use crate::cursor::{Cursor, Sign};
+use crate::cursor::Cursor;
 use crate::fault::Fault;
+use crate::marks::MINUS;
 use sk_lex::{Keyword, Word};
-use sk_rows::{Copies, NoMemory, Op, Txt, Value, is_name};
+use sk_rows::{Copies, LONGEST_TEXT, NoMemory, Op, Txt, Value, is_name};
 use std::alloc::Global;
 
 /// The levels of operators that group to the left.
@@ -22,9 +23,6 @@ pub enum Level {
     /// `*`
     Prod,
 }
-
-/// The sign before a negative literal.
-pub const MINUS: Sign = Sign::Mark(45, 0);
 
 fn name_of(alloc: Global, word: &Word) -> Result<Option<Txt>, NoMemory>
     ensures { IfOk result (λ r. r ≡ spec.name_of word.now) }
@@ -81,7 +79,7 @@ fn negative_int(n: u64) -> Option<Value>
 fn text_of(alloc: Global, t: &Txt) -> Result<Option<Value>, NoMemory>
     ensures { IfOk result (λ r. r ≡ spec.text_of t.now) }
 {
-    if t.as_slice().len() <= 255 {
+    if t.as_slice().len() <= LONGEST_TEXT {
         Ok(Some(Value::Text(t.copy(alloc)?)))
     } else {
         Ok(None)

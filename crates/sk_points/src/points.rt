@@ -2,6 +2,7 @@
 
 ghost use Rattle.std.specs.Prelude.{◌≡◌, ◌<◌, ◌≤◌, ◌==◌, ◌&&◌, not, nat_lt, IfOk, None, length, slice_index_or};
 ghost use Rattle.std.specs.List.{prefix_len};
+ghost use Rattle.sk_model.specs.Numbers.{greatest_number};
 ghost use Rattle.sk_weave.specs.Registry.{regs_at, is_within, greatest_within, first_of, last_of, drawn};
 ghost use Rattle.sk_weave.specs.RegistryLaws.{CanStart};
 ghost use Rattle.sk_weave.specs.Promise.{HasDrawn};
@@ -9,6 +10,7 @@ ghost use Rattle.sk_points.specs.Parts.{points_in, next_parts, next_newest, room
 ghost use Rattle.sk_points.specs.Stands.{StandsFor, Appends, AppendsCut, Stands, Picks};
 
 use crate::partition::Partition;
+use sk_model::GREATEST_NUMBER;
 use sk_rows::NoMemory;
 use sk_weave::{
     CutFound, DrawFault, Passed, Point, Recycled, Registry, Selected, before_b, pick_newest,
@@ -276,10 +278,10 @@ impl Registry for Points {
 
 /// The next number of a counter.
 fn draw(counter: u32, floor: u32) -> Result<u32, DrawFault>
-    requires { counter ≤ 2147483647 }
+    requires { counter ≤ greatest_number }
     ensures { result ≡ drawn counter floor }
 {
-    if counter == 2147483647 {
+    if counter == GREATEST_NUMBER {
         Err(DrawFault::Spent)
     } else if counter < floor {
         Err(DrawFault::Early { floor, counter })

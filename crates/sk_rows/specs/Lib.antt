@@ -1,6 +1,7 @@
 pub mod Catalog
 pub mod Evaluation
 pub mod Expression
+pub mod Limits
 pub mod Memory
 pub mod Names
 pub mod Orders

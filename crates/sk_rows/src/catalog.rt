@@ -6,6 +6,7 @@ ghost use Rattle.std.specs.Str.{bytes_eq};
 ghost use Rattle.sk_rows.specs.Catalog.{add_fault, IsCatalog, IsRefusal, has_column, has_table, are_columns, are_named, has_bool_key};
 
 use crate::copies::Copies;
+use crate::limits::{MOST_COLUMNS, MOST_TABLES};
 use crate::memory::NoMemory;
 use crate::names::is_name;
 use crate::table::{Column, Table, TableList};
@@ -81,7 +82,7 @@ fn are_named(columns: &[Column]) -> bool
 fn are_columns(columns: &[Column]) -> bool
     ensures { result ≡ are_columns columns.now }
 {
-    1 <= columns.len() && columns.len() <= 16 && are_named(columns)
+    1 <= columns.len() && columns.len() <= MOST_COLUMNS && are_named(columns)
 }
 
 #[tactic(auto, unfolding(crate::specs::Catalog::has_bool_key))]
@@ -112,7 +113,7 @@ fn add_fault(tables: &[Table], table: &Table) -> Option<CatalogFault>
         Some(CatalogFault::Columns)
     } else if has_bool_key(columns) {
         Some(CatalogFault::KeyColumn)
-    } else if tables.len() >= 64 {
+    } else if tables.len() >= MOST_TABLES {
         Some(CatalogFault::TooMany)
     } else {
         None

@@ -3,6 +3,7 @@
 ghost use Rattle.std.specs.Prelude.{◌≡◌, ◌↔◌, ◌≤◌, All, IsTrue, map, sum_by};
 ghost use Rattle.sk_rows.specs.Values.{Fits, IsShort, encoded_len, sort_of, value_cmp};
 
+use crate::limits::{LONGEST_ROW, LONGEST_TEXT};
 use crate::table::{Column, Table};
 use crate::value::{Row, Sort, Value};
 use std::cmp::Ordering;
@@ -45,7 +46,7 @@ impl Value {
         ensures { IsTrue result ↔ IsShort self.now }
     {
         match self {
-            Value::Text(t) => t.as_slice().len() <= 255,
+            Value::Text(t) => t.as_slice().len() <= LONGEST_TEXT,
             Value::Int(_) | Value::Bool(_) => true,
         }
     }
@@ -109,5 +110,5 @@ pub fn fits(row: &Row, table: &Table) -> bool
 {
     let values = row.as_slice();
     let columns = table.columns.as_slice();
-    have_sorts(values, columns) && are_short(values) && take_at_most(values, 1024)
+    have_sorts(values, columns) && are_short(values) && take_at_most(values, LONGEST_ROW)
 }

@@ -4,6 +4,7 @@ use Rattle.std.specs.List.{prefix_len}
 use Rattle.sk_lex.specs.declared.token.Token.{Token}
 use Rattle.sk_lex.specs.declared.token.Word.{Word}
 use Rattle.sk_lex.specs.declared.token.Word.TheVariants as word
+use Rattle.sk_lex.specs.Marks as mark
 use Rattle.sk_rows.specs.declared.statement.Statement.{Statement}
 use Rattle.sk_parse.specs.declared.fault.ParseFault.{ParseFault}
 use Rattle.sk_parse.specs.declared.fault.ParseFault.TheVariants as parse
@@ -26,7 +27,7 @@ is_mark byte _ = false
 
 -- no semicolon
 abbrev pub goes_on : Token → Bool
-goes_on t = not (is_mark 59 t.word)
+goes_on t = not (is_mark mark.semicolon t.word)
 
 -- nothing is left behind what was found
 abbrev pub alone : Result Statement ParseFault → List Token → Result Statement ParseFault
@@ -52,7 +53,7 @@ says session (Err f) = Err f
 
 abbrev pub behind_session : ℕ → List Token → ℕ → Result Line ParseFault
 behind_session session [] end = misfit [] end
-behind_session session (t ∷ ts) end = if is_mark 58 t.word then says session (said ts end) else misfit (t ∷ ts) end
+behind_session session (t ∷ ts) end = if is_mark mark.colon t.word then says session (said ts end) else misfit (t ∷ ts) end
 
 abbrev pub by_session : Option ℕ → Token → List Token → ℕ → Result Line ParseFault
 by_session (Some session) t ts end = behind_session session ts end

@@ -5,6 +5,7 @@ use Rattle.sk_lex.specs.declared.token.Token.{Token}
 use Rattle.sk_lex.specs.declared.token.Word.{Word}
 use Rattle.sk_lex.specs.declared.token.Word.TheVariants as word
 use Rattle.sk_lex.specs.Front.{Text}
+use Rattle.sk_lex.specs.Marks as mark
 use Rattle.sk_rows.specs.declared.statement.Statement.{Statement}
 use Rattle.sk_rows.specs.declared.table.Column.{Column}
 use Rattle.sk_rows.specs.declared.table.Table.{Table}
@@ -32,7 +33,7 @@ Misses f (t ∷ ts) = f t.word ≡ None
 
 abbrev pub IsNoMark : ℕ → List Token → Type 0
 IsNoMark byte [] = Unit {0}
-IsNoMark byte (t ∷ ts) = ¬ (t.word ≡ word.Mark byte 0)
+IsNoMark byte (t ∷ ts) = ¬ (t.word ≡ word.Mark byte mark.none)
 
 -- ---- lines that make tables
 
@@ -48,8 +49,8 @@ pub data ColumnFault (end : ℕ) : List Column → List Token → ℕ → Type 0
   -- a key of sort Bool is at fault at its name
   bool_key : (t u : Token) (ts : List Token) (name : List ℕ) → new_column [] t.word ≡ Some name → sort_of u.word ≡ Some sorts.Bool → ColumnFault end [] (t ∷ u ∷ ts) (t.from + 1)
   -- neither a comma nor the end
-  behind : (cs : List Column) (t u v : Token) (ts : List Token) (c : Column) → IsColumnAt cs t u c → ¬ (v.word ≡ word.Mark 44 0) → ColumnFault end cs (t ∷ u ∷ v ∷ ts) (v.from + 1)
-  later : (cs : List Column) (t u v : Token) (ts : List Token) (c : Column) (place : ℕ) → IsColumnAt cs t u c → v.word ≡ word.Mark 44 0 → ColumnFault end (cs ++ c ∷ []) ts place
+  behind : (cs : List Column) (t u v : Token) (ts : List Token) (c : Column) → IsColumnAt cs t u c → ¬ (v.word ≡ word.Mark mark.comma mark.none) → ColumnFault end cs (t ∷ u ∷ v ∷ ts) (v.from + 1)
+  later : (cs : List Column) (t u v : Token) (ts : List Token) (c : Column) (place : ℕ) → IsColumnAt cs t u c → v.word ≡ word.Mark mark.comma mark.none → ColumnFault end (cs ++ c ∷ []) ts place
       → ColumnFault end cs (t ∷ u ∷ v ∷ ts) place
 
 -- Where the tokens behind TABLE are at fault.
@@ -65,13 +66,13 @@ pub data TableFault (tables : List TableLine) (end : ℕ) : List Token → ℕ �
 -- Where the tokens of a session's line are at fault. A statement's own fault is its first by its grammar.
 pub data BodyFault (end : ℕ) : List Token → ℕ → Type 0 where
   session : (ts : List Token) → Misses session_of ts → BodyFault end ts (place_of end ts)
-  colon : (t : Token) (ts : List Token) (n : ℕ) → session_of t.word ≡ Some n → IsNoMark 58 ts → BodyFault end (t ∷ ts) (place_of end ts)
-  plain : (t c : Token) (ts : List Token) (n place : ℕ) → session_of t.word ≡ Some n → c.word ≡ word.Mark 58 0 → list_all goes_on ts ≡ true → IsFirstFault ts end place
+  colon : (t : Token) (ts : List Token) (n : ℕ) → session_of t.word ≡ Some n → IsNoMark mark.colon ts → BodyFault end (t ∷ ts) (place_of end ts)
+  plain : (t c : Token) (ts : List Token) (n place : ℕ) → session_of t.word ≡ Some n → c.word ≡ word.Mark mark.colon mark.none → list_all goes_on ts ≡ true → IsFirstFault ts end place
       → BodyFault end (t ∷ c ∷ ts) place
   -- the statement ends where the first semicolon stands
-  closed : (t c : Token) (us : List Token) (m : Token) (ts : List Token) (n place : ℕ) → session_of t.word ≡ Some n → c.word ≡ word.Mark 58 0 → list_all goes_on us ≡ true → m.word ≡ word.Mark 59 0
+  closed : (t c : Token) (us : List Token) (m : Token) (ts : List Token) (n place : ℕ) → session_of t.word ≡ Some n → c.word ≡ word.Mark mark.colon mark.none → list_all goes_on us ≡ true → m.word ≡ word.Mark mark.semicolon mark.none
       → IsFirstFault us m.from place → BodyFault end (t ∷ c ∷ us ++ m ∷ ts) place
-  behind : (t c : Token) (us : List Token) (m v : Token) (ts : List Token) (n : ℕ) (s : Statement) → session_of t.word ≡ Some n → c.word ≡ word.Mark 58 0 → m.word ≡ word.Mark 59 0 → Says (words us) s
+  behind : (t c : Token) (us : List Token) (m v : Token) (ts : List Token) (n : ℕ) (s : Statement) → session_of t.word ≡ Some n → c.word ≡ word.Mark mark.colon mark.none → m.word ≡ word.Mark mark.semicolon mark.none → Says (words us) s
       → BodyFault end (t ∷ c ∷ us ++ m ∷ v ∷ ts) (v.from + 1)
 
 -- ---- one line

@@ -6,6 +6,7 @@ use Rattle.sk_lex.specs.declared.token.Keyword.TheVariants as key
 use Rattle.sk_lex.specs.declared.token.Token.{Token}
 use Rattle.sk_lex.specs.declared.token.Word.{Word}
 use Rattle.sk_lex.specs.declared.token.Word.TheVariants as word
+use Rattle.sk_lex.specs.Marks as mark
 use Rattle.sk_rows.specs.declared.table.Column.{Column}
 use Rattle.sk_rows.specs.declared.table.Table.{Table}
 use Rattle.sk_rows.specs.declared.value.Sort.{Sort}
@@ -18,7 +19,7 @@ use Rattle.sk_parse.specs.declared.cursor.Sign.TheVariants as sign
 use Rattle.sk_parse.specs.Input.{Outcome, Parser, ◌>>=◌, eat, pure, refuse, next, taken}
 use Rattle.sk_parse.specs.Statements.{place_of}
 use Rattle.sk_script.specs.declared.script.TableLine.{TableLine}
-use Rattle.sk_script.specs.Limits.{most_columns, most_tables}
+use Rattle.sk_rows.specs.Limits.{most_columns, most_tables}
 
 -- some table has this name
 abbrev pub has_table : List ℕ → List TableLine → Bool
@@ -77,7 +78,7 @@ column columns = λ i. (do
 unfoldable pub columns_from : ℕ → List Column → Parser (List Column)
 columns_from zero found = pure found
 columns_from (suc n) found = do
-  more ← eat (sign.Mark 44 0)
+  more ← eat (sign.Mark mark.comma mark.none)
   if more then (do c ← column found; columns_from n (found ++ c ∷ [])) else pure found
 
 -- one or more columns, with commas between

@@ -7,7 +7,8 @@ use Rattle.sk_lex.specs.declared.token.Word.TheVariants as word
 use Rattle.sk_lex.specs.Front.{Text}
 use Rattle.sk_lex.specs.Scanning.{Scan, begun, scan}
 use Rattle.sk_script.specs.declared.legible.Legible.{Legible}
-use Rattle.sk_script.specs.Limits.{longest_line, longest_text}
+use Rattle.sk_rows.specs.Limits.{longest_text}
+use Rattle.sk_script.specs.Limits.{longest_line}
 
 -- How many bytes a text holds that goes on with these, behind so many others. The flag: a quote was read, which ends
 -- the text unless a second follows.

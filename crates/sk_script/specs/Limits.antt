@@ -1,21 +1,14 @@
 -- The limits of scripts.
-use Rattle.std.specs.Prelude.{ℕ}
+use Rattle.std.specs.Prelude.{ℕ, ◌+◌}
 
 -- of a script, in bytes
 abbrev pub longest_script : ℕ
 longest_script = 16777216
 
+-- of what is read of a source: by one byte more it is seen that a script is too long
+abbrev pub most_read : ℕ
+most_read = longest_script + 1
+
 -- of a line, in bytes without its end
 abbrev pub longest_line : ℕ
 longest_line = 4096
-
--- of a text, in bytes without its quotes
-abbrev pub longest_text : ℕ
-longest_text = 255
-
-abbrev pub most_tables : ℕ
-most_tables = 64
-
--- of one table
-abbrev pub most_columns : ℕ
-most_columns = 16

@@ -8,6 +8,7 @@ use Rattle.sk_lex.specs.declared.token.Word.{Word}
 use Rattle.sk_lex.specs.declared.token.Word.TheVariants as word
 use Rattle.sk_lex.specs.Front.{Text}
 use Rattle.sk_lex.specs.Scanning.{tokens}
+use Rattle.sk_lex.specs.Marks as mark
 use Rattle.sk_rows.specs.declared.statement.Statement.{Statement}
 use Rattle.sk_rows.specs.declared.table.Column.{Column}
 use Rattle.sk_rows.specs.declared.table.Table.{Table}
@@ -50,8 +51,8 @@ IsSession n = n ≡ 1
 
 -- number ":" statement [ ";" ]
 pub data IsBody : List Word → Line → Type 0 where
-  plain : (n : ℕ) (us : List Word) (s : Statement) → IsSession n → Says us s → IsBody (word.Number n ∷ word.Mark 58 0 ∷ us) (line.Says n s)
-  closed : (n : ℕ) (us : List Word) (s : Statement) → IsSession n → Says us s → IsBody (word.Number n ∷ word.Mark 58 0 ∷ us ++ word.Mark 59 0 ∷ []) (line.Says n s)
+  plain : (n : ℕ) (us : List Word) (s : Statement) → IsSession n → Says us s → IsBody (word.Number n ∷ word.Mark mark.colon mark.none ∷ us) (line.Says n s)
+  closed : (n : ℕ) (us : List Word) (s : Statement) → IsSession n → Says us s → IsBody (word.Number n ∷ word.Mark mark.colon mark.none ∷ us ++ word.Mark mark.semicolon mark.none ∷ []) (line.Says n s)
 
 -- ---- lines
 

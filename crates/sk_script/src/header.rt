@@ -7,14 +7,11 @@ ghost use Rattle.sk_rows.specs.Memory.{Gives};
 ghost use Rattle.sk_script.specs.Header as spec;
 ghost use Rattle.sk_script.specs.Lines.{IsLine, wants};
 
-use crate::limits::{MOST_COLUMNS, MOST_TABLES};
 use crate::script::TableLine;
 use sk_lex::{Keyword, Token, Word};
-use sk_parse::{Cursor, Fault, ParseFault, Sign};
-use sk_rows::{Column, ColumnList, Copies, NoMemory, Sort, Table, Txt, is_name};
+use sk_parse::{COMMA, Cursor, Fault, ParseFault};
+use sk_rows::{Column, ColumnList, Copies, MOST_COLUMNS, MOST_TABLES, NoMemory, Sort, Table, Txt, is_name};
 use std::alloc::Global;
-
-const COMMA: Sign = Sign::Mark(b',', 0);
 
 fn has_table(name: &Txt, tables: &[TableLine]) -> bool
     ensures { result ≡ spec.has_table name.now tables.now }

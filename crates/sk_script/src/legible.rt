@@ -5,9 +5,9 @@ ghost use Rattle.sk_script.specs.Legible as spec;
 ghost use Rattle.sk_script.specs.Limits.{longest_line, longest_script};
 ghost use Rattle.sk_script.specs.Lines.{IsLine};
 
-use crate::limits::{LONGEST_LINE, LONGEST_TEXT};
+use crate::limits::LONGEST_LINE;
 use sk_lex::{ScanFault, Scanned, Token, TokenList, Word, scan};
-use sk_rows::{NoMemory, Txt};
+use sk_rows::{LONGEST_TEXT, NoMemory, Txt};
 use std::alloc::Global;
 
 /// The front of a line, up to the first byte that may not stand there.

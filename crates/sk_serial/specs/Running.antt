@@ -13,17 +13,18 @@ use Rattle.sk_script.specs.declared.script.Script.{Script}
 use Rattle.sk_script.specs.declared.script.ScriptFault.TheVariants as fault
 use Rattle.sk_script.specs.Script.{script_of}
 use Rattle.sk_script.specs.Text.{script_fault_text}
+use Rattle.sk_script.specs.Limits.{most_read}
 use Rattle.sk_serial.specs.declared.playing.Shown.{Shown}
 use Rattle.sk_serial.specs.declared.run_fault.RunFault.{RunFault}
 use Rattle.sk_serial.specs.declared.run_fault.RunFault.TheVariants as run_fault
 use Rattle.sk_serial.specs.Played.{lines_with, run_of, tables_in, text_of}
 
--- the bytes were read: to the end of the source, or through byte 16,777,217
+-- the bytes were read: to the end of the source, or through the first byte past the longest script
 pub record IsRead (old new : Option (List ℕ)) (bytes : List ℕ) : Type 0 where
-  pub first : IfSome old (λ left. bytes ≡ take 16777217 left)
+  pub first : IfSome old (λ left. bytes ≡ take most_read left)
   pub taken : Consumes old new bytes
-  pub most : length bytes ≤ 16777217
-  pub ended : length bytes < 16777217 → IsAtEnd new
+  pub most : length bytes ≤ most_read
+  pub ended : length bytes < most_read → IsAtEnd new
 
 -- bytes were read that are this script
 pub record Reads (old new : Option (List ℕ)) (script : Script) : Type 0 where

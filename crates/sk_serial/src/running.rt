@@ -5,6 +5,7 @@ ghost use Rattle.std.specs.Io.KnownBytes.{Appends};
 ghost use Rattle.std.specs.String.{string_bytes};
 ghost use Rattle.sk_outside.specs.Causes.{Rose};
 ghost use Rattle.sk_outside.specs.Pieces.{AppendsFront, ConsumesAtMost};
+ghost use Rattle.sk_script.specs.Limits.{most_read};
 ghost use Rattle.sk_script.specs.Words.{place as place_of};
 ghost use Rattle.sk_script.specs.Tables.{CanAdd};
 ghost use Rattle.sk_script.specs.Text.{script_fault_text};
@@ -45,7 +46,7 @@ fn read_bytes<S: Source>(alloc: Global, source: &mut S) -> Result<Vec<u8>, RunFa
     ensures bytes { IfOk result (λ bytes. spec.IsRead (S.left source.old) (S.left source.new) bytes.items) }
     ensures script { IfErr result spec.IsReadFault }
     ensures read { IsErrOf result RunFault.Read → Rose (S.faults source.old) (S.faults source.new) }
-    ensures within { ConsumesAtMost 16777217 (S.left source.old) (S.left source.new) }
+    ensures within { ConsumesAtMost most_read (S.left source.old) (S.left source.new) }
     ensures later { S.faults source.old ≤ S.faults source.new }
 {
     match read_whole(alloc, source) {
@@ -59,7 +60,7 @@ fn read_bytes<S: Source>(alloc: Global, source: &mut S) -> Result<Vec<u8>, RunFa
 fn play_source<S: Source>(alloc: Global, source: &mut S) -> Result<Shown, RunFault>
     ensures found { spec.Found (S.left source.old) (S.left source.new) result }
     ensures read { IsErrOf result RunFault.Read → Rose (S.faults source.old) (S.faults source.new) }
-    ensures within { ConsumesAtMost 16777217 (S.left source.old) (S.left source.new) }
+    ensures within { ConsumesAtMost most_read (S.left source.old) (S.left source.new) }
     ensures later { S.faults source.old ≤ S.faults source.new }
 {
     let bytes = read_bytes(alloc, source)?;
@@ -162,7 +163,7 @@ fn finish<K: Sink>(shown: Shown, sink: &mut K) -> Outcome
 fn run<S: Source, K: Sink>(alloc: Global, words: &[String], source: &mut S, sink: &mut K) -> Outcome
     ensures ran { spec.Ran (is_some (place_of (map string_bytes words.now))) (S.left source.old) (S.left source.new) (K.written sink.old) (K.written sink.new) (S.faults source.old) (S.faults source.new) (K.faults sink.old) (K.faults sink.new) result }
     ensures untouched { is_some (place_of (map string_bytes words.now)) ≡ false → source.new ≡ source.old }
-    ensures within { ConsumesAtMost 16777217 (S.left source.old) (S.left source.new) }
+    ensures within { ConsumesAtMost most_read (S.left source.old) (S.left source.new) }
 {
     if place(words).is_none() {
         return refuse(alloc, RunFault::Usage, sink);
@@ -209,7 +210,7 @@ pub fn run_script<S: Source, K: Sink>(
     ensures played { spec.is_fault result.status ≡ false → spec.HasRun (S.left source.old) (S.left source.new) (K.written sink.old) (K.written sink.new) result }
 
     // At most so many bytes are taken, whatever it answers.
-    ensures within { ConsumesAtMost 16777217 (S.left source.old) (S.left source.new) }
+    ensures within { ConsumesAtMost most_read (S.left source.old) (S.left source.new) }
 {
     run(alloc, words, source, sink)
 }
