@@ -9,9 +9,9 @@ ghost use Rattle.sk_model.specs.Names.{table_at};
 ghost use Rattle.sk_model.specs.Reads.{one_row as one_row_spec, rows_read};
 ghost use Rattle.sk_model.specs.Replies as spec;
 
-use crate::answering::{Answer, comes_to, refused};
-use crate::asking::{key_read, target_table};
-use crate::refusing::refusal;
+use crate::answers::{Answer, comes_to, refused};
+use crate::keys::{key_read, target_table};
+use crate::refusals::refusal;
 use sk_model::{ErrWord, KeyedRows};
 use sk_rows::{Catalog, Copies, NoMemory, Row, Statement, Table, Txt, Value};
 use std::alloc::Global;

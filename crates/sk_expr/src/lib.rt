@@ -2,34 +2,34 @@
 //! replies of a record are such answers.
 #![tactic(auto)]
 
-mod answering;
-mod asking;
-mod changing;
-mod concerning;
-mod counting;
+mod answers;
+mod changes;
+mod concerned;
 mod database;
 mod evaluation;
-mod explaining;
-mod judging;
+mod judged;
+mod keys;
 mod laws;
-mod naming;
-mod reading;
-mod refusing;
+mod names;
+mod reads;
+mod refusals;
 mod rooms;
 mod sameness;
 mod seen;
 mod shapes;
+mod sorts;
 mod states;
+mod told;
 mod typing;
 
-pub use answering::comes_to;
-pub use asking::{key_read, target_table};
-pub use concerning::concerns;
+pub use answers::comes_to;
+pub use concerned::concerns;
 pub use evaluation::{holds, value};
-pub use explaining::explain;
+pub use keys::{key_read, target_table};
 pub use laws::{only_rows_that_concern_count, typed_has_value};
-pub use refusing::refusal;
+pub use refusals::refusal;
 pub use sk_rows::{TypeFault, ValueFault};
+pub use told::explain;
 pub use typing::type_check;
 
 #[cfg(test)]

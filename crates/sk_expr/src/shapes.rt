@@ -5,7 +5,7 @@ ghost use Rattle.std.specs.Option.{option_copied};
 ghost use Rattle.sk_model.specs.Reads as spec;
 ghost use Rattle.sk_expr.specs.Shapes.{shape_seen, side};
 
-use crate::naming::is_key;
+use crate::names::is_key;
 use sk_rows::{Column, Expr, Op, Txt, Value};
 
 /// A condition as far as `name = literal` goes.

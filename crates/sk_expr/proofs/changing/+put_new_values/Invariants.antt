@@ -1,6 +1,0 @@
-use Rattle.std.proofs.Common.{length}
-use Rattle.sk_expr.proofs.changing.+put_new_values.Given as goal
-
--- The columns that are still to be put grow fewer.
-abbrev pub decreases-put_new_values : goal.decreases-put_new_values
-decreases-put_new_values l = length l.of.now
