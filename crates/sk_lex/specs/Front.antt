@@ -137,7 +137,7 @@ text_at (b ∷ z) = text_of z (text_from false [] 1 z)
 -- ---- marks
 
 unfoldable pub is_single : ℕ → Bool
-is_single b = (nat_le mark.open b && nat_le b mark.minus) || (nat_le mark.colon b && nat_le b mark.greater)
+is_single b = (nat_le mark.open_paren b && nat_le b mark.minus) || (nat_le mark.colon b && nat_le b mark.greater)
 
 unfoldable pub is_pair : ℕ → ℕ → Bool
 is_pair b c = (b == mark.less && (c == mark.equals || c == mark.greater)) || (b == mark.greater && c == mark.equals)

@@ -7,11 +7,11 @@ none = 0
 abbrev pub quote : ℕ
 quote = 39
 
-abbrev pub open : ℕ
-open = 40
+abbrev pub open_paren : ℕ
+open_paren = 40
 
-abbrev pub close : ℕ
-close = 41
+abbrev pub close_paren : ℕ
+close_paren = 41
 
 abbrev pub star : ℕ
 star = 42

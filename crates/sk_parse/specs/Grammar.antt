@@ -49,15 +49,15 @@ is_column _ = false
 
 unfoldable pub in_parens : Parser Expr → Parser Expr
 in_parens expr = do
-  expect (sign.Mark mark.open mark.none)
+  expect (sign.Mark mark.open_paren mark.none)
   inner ← expr
-  expect (sign.Mark mark.close mark.none)
+  expect (sign.Mark mark.close_paren mark.none)
   pure inner
 
 -- the parser of what stands in parentheses, with these
 unfoldable pub atom_over : Parser Expr → Parser Expr
 atom_over parens = λ i.
-    if sees (sign.Mark mark.open mark.none) i then parens i
+    if sees (sign.Mark mark.open_paren mark.none) i then parens i
     else if is_column (first i) then (e.Col <$> name) i
     else (e.Lit <$> literal) i
 

@@ -71,7 +71,7 @@ literal_words (value.Bool false) = word.Key key.False ∷ []
 
 -- parentheses, where they are asked for
 abbrev pub wrapped : Bool → List Word → List Word
-wrapped asked ws = if asked then word.Mark mark.open mark.none ∷ ws ++ word.Mark mark.close mark.none ∷ [] else ws
+wrapped asked ws = if asked then word.Mark mark.open_paren mark.none ∷ ws ++ word.Mark mark.close_paren mark.none ∷ [] else ws
 
 -- by the rule at whose place it stands
 abbrev pub print_step : Expr-F (ℕ → List Word) → ℕ → List Word
@@ -165,7 +165,7 @@ said_words (st.Begin begun) = word.Key key.Begin ∷ begun_words begun
 said_words st.Commit = word.Key key.Commit ∷ []
 said_words st.Rollback = word.Key key.Rollback ∷ []
 said_words (st.Insert table values) =
-    word.Key key.Insert ∷ word.Key key.Into ∷ word.Name table ∷ word.Key key.Values ∷ word.Mark mark.open mark.none ∷ listed_words literal_words values ++ word.Mark mark.close mark.none ∷ []
+    word.Key key.Insert ∷ word.Key key.Into ∷ word.Name table ∷ word.Key key.Values ∷ word.Mark mark.open_paren mark.none ∷ listed_words literal_words values ++ word.Mark mark.close_paren mark.none ∷ []
 said_words (st.Select table columns cond) = word.Key key.Select ∷ shown_words columns ++ word.Key key.From ∷ word.Name table ∷ cond_words cond
 said_words (st.Update table sets cond) = word.Key key.Update ∷ word.Name table ∷ word.Key key.Set ∷ listed_words set_words sets ++ cond_words cond
 said_words (st.Delete table cond) = word.Key key.Delete ∷ word.Key key.From ∷ word.Name table ∷ cond_words cond

@@ -59,7 +59,7 @@ Says ws (st.Begin b) = (us : List Word) × (ws ≡ word.Key key.Begin ∷ us) ×
 Says ws st.Commit = ws ≡ word.Key key.Commit ∷ []
 Says ws st.Rollback = ws ≡ word.Key key.Rollback ∷ []
 Says ws (st.Insert t values) =
-    (us : List Word) × (ws ≡ word.Key key.Insert ∷ word.Key key.Into ∷ word.Name t ∷ word.Key key.Values ∷ word.Mark mark.open mark.none ∷ us ++ word.Mark mark.close mark.none ∷ [])
+    (us : List Word) × (ws ≡ word.Key key.Insert ∷ word.Key key.Into ∷ word.Name t ∷ word.Key key.Values ∷ word.Mark mark.open_paren mark.none ∷ us ++ word.Mark mark.close_paren mark.none ∷ [])
     × (is_name t ≡ true) × AreListed IsLiteral us values
 Says ws (st.Select t columns c) =
     (us : List Word) × (vs : List Word) × (ws ≡ word.Key key.Select ∷ us ++ word.Key key.From ∷ word.Name t ∷ vs)

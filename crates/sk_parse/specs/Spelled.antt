@@ -24,10 +24,10 @@ abbrev pub front_digits : ℕ → ℕ → List ℕ
 front_digits k n = if nat_lt n 10 then [] else digits k (n / 10)
 
 abbrev pub opened : Bool → List ℕ
-opened asked = if asked then spaced (word.Mark mark.open mark.none) else []
+opened asked = if asked then spaced (word.Mark mark.open_paren mark.none) else []
 
 abbrev pub closed : Bool → List ℕ
-closed asked = if asked then spaced (word.Mark mark.close mark.none) else []
+closed asked = if asked then spaced (word.Mark mark.close_paren mark.none) else []
 
 abbrev pub literal_text : Value → List ℕ
 literal_text (value.Int (pos n)) = spaced (word.Number n)
@@ -79,7 +79,7 @@ shown_text (Some names) = listed_text name_text names
 unfoldable pub insert_text : List ℕ → List Value → List ℕ
 insert_text table values =
     spaced (word.Key key.Insert) ++ spaced (word.Key key.Into) ++ name_text table ++ spaced (word.Key key.Values)
-    ++ spaced (word.Mark mark.open mark.none) ++ listed_text literal_text values ++ spaced (word.Mark mark.close mark.none)
+    ++ spaced (word.Mark mark.open_paren mark.none) ++ listed_text literal_text values ++ spaced (word.Mark mark.close_paren mark.none)
 
 unfoldable pub select_text : List ℕ → Option (List (List ℕ)) → Option Expr → List ℕ
 select_text table columns cond = spaced (word.Key key.Select) ++ shown_text columns ++ spaced (word.Key key.From) ++ name_text table ++ cond_text cond

@@ -40,9 +40,9 @@ insert = do
   expect (sign.Key key.Into)
   table ← name
   expect (sign.Key key.Values)
-  expect (sign.Mark mark.open mark.none)
+  expect (sign.Mark mark.open_paren mark.none)
   values ← listed literal
-  expect (sign.Mark mark.close mark.none)
+  expect (sign.Mark mark.close_paren mark.none)
   pure (st.Insert table values)
 
 unfoldable pub select_list : Parser (Option (List (List ℕ)))

@@ -10,7 +10,9 @@ ghost use Rattle.sk_script.specs.Lines.{IsLine, wants};
 use crate::script::TableLine;
 use sk_lex::{Keyword, Token, Word};
 use sk_parse::{COMMA, Cursor, Fault, ParseFault};
-use sk_rows::{Column, ColumnList, Copies, MOST_COLUMNS, MOST_TABLES, NoMemory, Sort, Table, Txt, is_name};
+use sk_rows::{
+    Column, ColumnList, Copies, MOST_COLUMNS, MOST_TABLES, NoMemory, Sort, Table, Txt, is_name,
+};
 use std::alloc::Global;
 
 fn has_table(name: &Txt, tables: &[TableLine]) -> bool
