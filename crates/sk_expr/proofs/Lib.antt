@@ -7,8 +7,8 @@ pub mod Sound
 -- the rows that can matter, and what a statement comes to over them
 pub mod Extensions
 pub mod Taking
-pub mod Names
-pub mod Concerned
+pub mod Naming
+pub mod Concerning
 -- the replayer
 pub mod Tables
 pub mod Placing

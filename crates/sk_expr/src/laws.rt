@@ -17,7 +17,7 @@ pub fn typed_has_value()
 {}
 
 /// A statement comes to the same over the rows that can matter to it as over all that it reads.
-#[tactic(auto, using(crate::proofs::Concerned::concerned))]
+#[tactic(auto, using(crate::proofs::Concerning::concerned))]
 pub fn only_rows_that_concern_count()
     ensures { IsSameOverConcerned }
 {}

@@ -23,7 +23,7 @@ pub(crate) fn is_key(columns: &[Column], name: &Txt) -> bool
     }
 }
 
-#[tactic(auto, using(crate::proofs::Names::known_left, crate::proofs::Names::unknown_right))]
+#[tactic(auto, using(crate::proofs::Naming::known_left, crate::proofs::Naming::unknown_right))]
 fn expr_known(columns: &[Column], expr: &Expr) -> bool
     ensures { result ≡ spec.expr_known columns.now expr.now }
 {
