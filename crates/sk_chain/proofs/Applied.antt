@@ -1,12 +1,11 @@
 -- What an applied call leaves of an engine with a journal.
-use Rattle.std.specs.Prelude.{◌≡◌, ℕ, ◌+◌, ◌≤◌, List, [], ◌∷◌, ◌++◌, Option, Some, None, Bool, true, false, cond, not, ◌&&◌, ◌||◌, ◌⊎◌, length, is_some}
+use Rattle.std.specs.Prelude.{◌≡◌, ℕ, List, [], ◌∷◌, ◌++◌, Option, Some, None, Bool, true, false, cond, not, ◌&&◌, ◌||◌, ◌⊎◌, is_some}
 use Rattle.std.proofs.Common.{refl, sym, ap, subst, ◌∙◌, arith, inl, inr, ⊎_elim}
 use Rattle.std.proofs.lemmas.Bool.{and_from, or_right, false≢true, cond-false}
 use Rattle.std.proofs.lemmas.List.{append-nil, append_assoc}
 use Rattle.sk_outside.specs.Causes.{Rose}
 use Rattle.sk_model.specs.declared.call.EngineCall.{EngineCall}
 use Rattle.sk_model.specs.declared.call.EngineCall.TheVariants as call
-use Rattle.sk_model.specs.declared.call.EngineFault.{EngineFault}
 use Rattle.sk_model.specs.declared.call.EngineFault.TheVariants as fault
 use Rattle.sk_model.specs.declared.call.EngineReply.{EngineReply}
 use Rattle.sk_model.specs.declared.call.EngineReply.TheVariants.{Fault}
@@ -18,8 +17,7 @@ use Rattle.sk_model.specs.EngineReplies.{answer_of}
 use Rattle.sk_model.specs.Legal.{step, due, touches, may_fail, is_refusal, after_entries, Legal, IsReply}
 use Rattle.sk_model.specs.Resembling.{Resembles}
 use Rattle.sk_model.specs.Journal.{Written, entered, is_horizon}
-use Rattle.sk_model.proofs.Openings.{order_step}
-use Rattle.sk_chain.specs.Promise.{entry_of, refused, Meets, Replies, Leaves, Serves}
+use Rattle.sk_chain.specs.Promise.{entry_of, Meets, Replies, Leaves, Serves}
 use Rattle.sk_chain.specs.Runs.{Made, entered_by, entries_by, engine_behind}
 use Rattle.sk_chain.specs.Noting.{Notes}
 use Rattle.sk_chain.specs.Applying.{IsInUse, entered_reply, takes_memory, may_want, Answers, Follows, Applies, AppliesAll, IsLegalFrom, AppliedStaysLegal}
