@@ -17,14 +17,14 @@ use Rattle.sk_chain.specs.Promise.{entry_of, Leaves}
 use Rattle.sk_chain.specs.Noting.{Notes, noted}
 
 -- an entry that a journal can have is entered
-entered_is : (js ks : List Entry) (j : Entry) → (length js ≤ most_entries → ks ≡ js) → length (js ++ j ∷ []) ≤ most_entries → entered ks j ≡ js ++ j ∷ []
+pub entered_is : (js ks : List Entry) (j : Entry) → (length js ≤ most_entries → ks ≡ js) → length (js ++ j ∷ []) ≤ most_entries → entered ks j ≡ js ++ j ∷ []
 entered_is js ks j same le =
     let n : length (js ++ j ∷ []) ≡ length js + 1 = length_push js j in
     let e : ks ≡ js = same (omega arith) in
     ap (λ xs. entered xs j) e ∙ cond-true (nat_lt (length js) most_entries) (js ++ j ∷ []) js (lt-ltb (length js) most_entries (omega arith))
 
 -- behind what is no Horizon each Horizon may stand
-goes_entered : (h : ℕ) (ks : List Entry) (j : Entry) → is_horizon j.call ≡ false → length (entered ks j) < most_entries → goes_behind h (last_in None (entered ks j)) ≡ true
+pub goes_entered : (h : ℕ) (ks : List Entry) (j : Entry) → is_horizon j.call ≡ false → length (entered ks j) < most_entries → goes_behind h (last_in None (entered ks j)) ≡ true
 goes_entered h ks j o = cond_both (nat_lt (length ks) most_entries) (ks ++ j ∷ []) ks (λ xs. length xs < most_entries → goes_behind h (last_in None xs) ≡ true)
     (λ t l. ap (goes_behind h) (last_append None ks (j ∷ [])) ∙ ap (λ b. not b || answers h j.reply) o)
     (λ f l. absurd (false≢true (sym f ∙ lt-ltb (length ks) most_entries l)))

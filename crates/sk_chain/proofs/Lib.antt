@@ -8,3 +8,6 @@ pub mod Legality
 pub mod Entering
 pub mod Serving
 pub mod Journaled
+-- calls that are made where they may be, and else passed over
+pub mod Applied
+pub mod AppliedJournal

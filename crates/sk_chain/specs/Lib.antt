@@ -5,3 +5,4 @@ pub mod Changing
 pub mod Promise
 pub mod Runs
 pub mod Noting
+pub mod Applying

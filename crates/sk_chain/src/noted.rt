@@ -21,8 +21,8 @@ use std::alloc::Global;
 #[derive(Debug, Drop)]
 pub struct Noted<G> {
     engine: G,
-    journal: JournalWriter,
-    alloc: Global,
+    pub(crate) journal: JournalWriter,
+    pub(crate) alloc: Global,
 }
 
 impl<G: Engine + Drop> Noted<G> {

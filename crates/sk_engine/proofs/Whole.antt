@@ -1,7 +1,9 @@
 -- What a call does to the whole engine.
-use Rattle.std.specs.Prelude.{◌≡◌, ℕ, ◌≤◌, Option, Some, None, Bool, true, false, cond, not, max, IfSome, is_some}
+use Rattle.std.specs.Prelude.{◌≡◌, ℕ, ◌≤◌, List, [], ◌∷◌, ◌++◌, Option, Some, None, Bool, true, false, cond, not, max, IfSome, is_some}
 use Rattle.std.proofs.Common.{refl, sym, ap, subst, ◌∙◌, ⊎_elim}
 use Rattle.std.specs.Option.{option_map}
+use Rattle.std.specs.FinMap.{put}
+use Rattle.std.specs.Ordering.{nat_cmp}
 use Rattle.std.proofs.lemmas.Bool.{cases_Bool, cond-true, cond-false, false≢true}
 use Rattle.sk_rows.specs.declared.value.Value.{Value}
 use Rattle.sk_model.specs.declared.label.Label.{Label}
@@ -177,47 +179,34 @@ module _ (newest p : ℕ) (opening after : Label → Option Held) (chain : Chain
       subst (λ c. RowIs p (row_of e.rows t key) (row_versions t key (restand tx (standing_of a) e.versions)) c) (sym (acts_own t key))
       (row_act a p (row_of e.rows t key) tx t key e.versions (chain t key) (h.rows t key))
 
+  -- the opening is gone, and each version of its transaction that was open or closed stands as the act has it
+  stands_ended : (stamped : List (ℕ × Label)) (voided : List ℕ)
+      → Stands newest p after then (record e { versions = restand tx (standing_of a) e.versions; openings = without_opening tx e.openings; stamped = stamped; voided = voided })
+  stands_ended stamped voided = record {
+    greatest = h.greatest;
+    purged = h.purged;
+    openings = ended_openings;
+    in_time = ended_in_time;
+    floors = ended_floors;
+    rows = ended_rows;
+    wrote = ended_wrote;
+    tops = ended_tops;
+  }
+
 pub stands_stamp : (newest p : ℕ) (opening after : Label → Option Held) (chain : Chains) (e : EngineTable) (tx : Label) (n : ℕ)
     → Stands newest p opening chain e → AreReady (act.Stamp n) tx chain → ((q : Label) → after q ≡ cond (same_label tx q) None (opening q))
     → Stands newest p after (all_acted (act.Stamp n) (wrote_by (opening tx)) chain) (change e (call.Stamp tx n))
-stands_stamp newest p opening after chain e tx n h ready gone = record {
-  greatest = h.greatest;
-  purged = h.purged;
-  openings = ended_openings newest p opening after chain e tx (act.Stamp n) refl h ready gone;
-  in_time = ended_in_time newest p opening after chain e tx (act.Stamp n) refl h ready gone;
-  floors = ended_floors newest p opening after chain e tx (act.Stamp n) refl h ready gone;
-  rows = ended_rows newest p opening after chain e tx (act.Stamp n) refl h ready gone;
-  wrote = ended_wrote newest p opening after chain e tx (act.Stamp n) refl h ready gone;
-  tops = ended_tops newest p opening after chain e tx (act.Stamp n) refl h ready gone;
-}
+stands_stamp newest p opening after chain e tx n h ready gone = stands_ended newest p opening after chain e tx (act.Stamp n) refl h ready gone (put nat_cmp n tx e.stamped) e.voided
 
 pub stands_void : (newest p : ℕ) (opening after : Label → Option Held) (chain : Chains) (e : EngineTable) (tx : Label) (n : ℕ)
     → Stands newest p opening chain e → AreReady (act.Void) tx chain → ((q : Label) → after q ≡ cond (same_label tx q) None (opening q))
     → Stands newest p after (all_acted (act.Void) (wrote_by (opening tx)) chain) (change e (call.Void tx n))
-stands_void newest p opening after chain e tx n h ready gone = record {
-  greatest = h.greatest;
-  purged = h.purged;
-  openings = ended_openings newest p opening after chain e tx (act.Void) refl h ready gone;
-  in_time = ended_in_time newest p opening after chain e tx (act.Void) refl h ready gone;
-  floors = ended_floors newest p opening after chain e tx (act.Void) refl h ready gone;
-  rows = ended_rows newest p opening after chain e tx (act.Void) refl h ready gone;
-  wrote = ended_wrote newest p opening after chain e tx (act.Void) refl h ready gone;
-  tops = ended_tops newest p opening after chain e tx (act.Void) refl h ready gone;
-}
+stands_void newest p opening after chain e tx n h ready gone = stands_ended newest p opening after chain e tx act.Void refl h ready gone e.stamped (e.voided ++ n ∷ [])
 
 pub stands_drop : (newest p : ℕ) (opening after : Label → Option Held) (chain : Chains) (e : EngineTable) (tx : Label)
     → Stands newest p opening chain e → AreReady (act.Void) tx chain → ((q : Label) → after q ≡ cond (same_label tx q) None (opening q))
     → Stands newest p after (all_acted (act.Void) (wrote_by (opening tx)) chain) (change e (call.DropTx tx))
-stands_drop newest p opening after chain e tx h ready gone = record {
-  greatest = h.greatest;
-  purged = h.purged;
-  openings = ended_openings newest p opening after chain e tx (act.Void) refl h ready gone;
-  in_time = ended_in_time newest p opening after chain e tx (act.Void) refl h ready gone;
-  floors = ended_floors newest p opening after chain e tx (act.Void) refl h ready gone;
-  rows = ended_rows newest p opening after chain e tx (act.Void) refl h ready gone;
-  wrote = ended_wrote newest p opening after chain e tx (act.Void) refl h ready gone;
-  tops = ended_tops newest p opening after chain e tx (act.Void) refl h ready gone;
-}
+stands_drop newest p opening after chain e tx h ready gone = stands_ended newest p opening after chain e tx act.Void refl h ready gone e.stamped e.voided
 
 pub ready_close : (newest p : ℕ) (opening : Label → Option Held) (chain : Chains) (e : EngineTable) (tx : Label) (f : ℕ) → Stands newest p opening chain e → is_standing (opening_of e tx) ≡ true → AreReady (act.Close f) tx chain
 ready_close newest p opening chain e tx f h s t key v top own = open_ready (opening_of e tx) v.state s (own_state newest p opening chain e tx t key v h top own)

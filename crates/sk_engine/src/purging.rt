@@ -49,7 +49,7 @@ pub(crate) fn count_upto(numbers: &[Number], n: u32) -> usize
     count
 }
 
-/// GivesReply up what of these rows only snapshots before this number need.
+/// Gives up what of these rows only snapshots before this number need.
 fn forget_rows<R: Rows>(rows: &mut R, row_ids: &BTreeSet<RowId>, upto: u32)
     ensures later { R.faults rows.old ≤ R.faults rows.new }
     ensures forgets { Forgets R.shows upto rows.old rows.new }

@@ -9,5 +9,8 @@ mod rows;
 mod scanning;
 
 pub use engine::MemEngine;
-pub use laws::mem_journal_is_legal;
+pub use laws::{mem_applied_is_legal, mem_journal_is_legal};
 pub use rows::MemRows;
+
+#[cfg(test)]
+mod tests;
