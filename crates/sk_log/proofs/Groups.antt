@@ -17,7 +17,7 @@ use Rattle.sk_log.specs.Groups.{halves, is_cross}
 use Rattle.sk_log.specs.Stores.{Reached, Opening, range_of, body_of, stored_of, group_of, next_gate, opened, holding, turns}
 use Rattle.sk_log.specs.Images.{Base}
 use Rattle.sk_log.specs.Growth.{OpensAs, Behind, Follows, group_text, from_ends, grown}
-use Rattle.sk_log.proofs.Tools.{bind_ok, ok_is}
+use Rattle.sk_codec.proofs.Parts.{bind_ok, ok_is}
 use Rattle.sk_log.proofs.Turns.{Turned, Went, goes, turns_on, turn_then, turn_last, stops, lies, as_long}
 use Rattle.sk_log.proofs.Openings.{parts_of, goes_on}
 

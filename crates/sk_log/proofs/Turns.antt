@@ -13,7 +13,8 @@ use Rattle.sk_log.specs.declared.logged.Logged.{Logged}
 use Rattle.sk_log.specs.declared.logged.Head.{Head}
 use Rattle.sk_log.specs.Groups.{first_at, second_at, end_at, head_at, body_at, halves, is_cross}
 use Rattle.sk_log.specs.Stores.{Reached, range_of, body_of, stored_of, group_of, group_at, next_gate, behind_gate, turn, turns}
-use Rattle.sk_log.proofs.Tools.{bind_ok, guard_ok, ok_is, chosen_some, chosen_none, num_is}
+use Rattle.sk_codec.proofs.Parts.{bind_ok, guard_ok, ok_is}
+use Rattle.sk_log.proofs.Tools.{chosen_some, chosen_none}
 
 -- the same up to both places, which are there
 pub record Agrees (end gate : ℕ) (one two one' two' : List ℕ) : Type 0 where
@@ -152,7 +153,7 @@ unfolding next_gate
 next_past s bytes next e =
     let n = bind_ok (number_at w32 (record { file = anchor_file s.set; place = s.gate + 1; bytes = bytes })) _ _ e in
     let g = guard_ok _ _ _ _ n.2 in
-    let is : s.gate + 5 + n.0.0 ≡ next = num_is _ _ g.1 in
+    let is : s.gate + 5 + n.0.0 ≡ next = ok_is _ _ g.1 in
     let le : s.gate + 5 ≤ s.gate + 5 + n.0.0 = omega arith in
     subst (λ (k : ℕ). s.gate + 5 ≤ k) is le
 

@@ -1,17 +1,18 @@
 -- A group that is spelled is read.
 use Rattle.std.proofs.Common.{◌≡◌, ◌⊎◌, ℕ, zero, suc, ◌+◌, ◌-◌, ◌^◌, ◌<◌, ◌≤◌, Bool, true, false, List, [], ◌∷◌, ◌++◌, length, drop, Result, Ok, refl, sym, ap, subst, ◌∙◌, append_assoc, arith, inl, inr}
 use Rattle.std.specs.Prelude.{◌==◌, ◌&&◌, nat_le}
-use Rattle.std.specs.List.{filter}
+use Rattle.std.specs.List.{filter, flat_map}
 use Rattle.std.specs.Int.{w32, to_be_bytes}
 use Rattle.std.proofs.lemmas.Bool.{le-ltb, le-leb, lt-leb, eq-eqb, ne_eqb, and_left, and_right}
 use Rattle.std.proofs.lemmas.List.{append-nil, length-append}
 use Rattle.sk_rows.specs.declared.table.Table.{Table}
 use Rattle.sk_model.specs.declared.commit.Commit.{Commit}
+use Rattle.sk_model.specs.declared.commit.Write.{Write}
 use Rattle.sk_model.specs.declared.point.Point.{Point}
 use Rattle.sk_codec.specs.declared.fault.Fault.{Fault}
 use Rattle.sk_codec.specs.Reading.{Rest, items_at}
 use Rattle.sk_codec.specs.Records.{record_at, top}
-use Rattle.sk_codec.specs.Spelling.{IsRecord, own_of, number_or_0, label_bytes, record_bytes}
+use Rattle.sk_codec.specs.Spelling.{IsRecord, own_of, other_of, number_or_0, label_bytes, numbers_bytes, write_bytes, writes_bytes, record_bytes}
 use Rattle.sk_codec.proofs.Parts.{IsBytes, IsBytes-drop, at, or_false, wide32, number_there, number_in_there}
 use Rattle.sk_codec.proofs.RecordLaws.{record_reads, record_takes}
 use Rattle.sk_log.specs.declared.logged.Logged.{Logged}
@@ -22,6 +23,46 @@ use Rattle.sk_log.specs.Stores.{commits, body_of, stored_of, group_of}
 use Rattle.sk_log.specs.Spelled.{records_bytes, head_bytes, counted_bytes, body_bytes}
 use Rattle.sk_log.specs.Growth.{Follows, from_ends}
 use Rattle.sk_log.specs.Lawful.{AreRecords, is_both, ArePairs, IsGroup}
+
+-- ---- counts
+
+writes_some : (ws : List Write) → length ws ≤ length (flat_map write_bytes ws)
+unfolding write_bytes
+writes_some [] = omega arith
+writes_some (w ∷ ws) = omega (arith, writes_some ws, length-append (write_bytes w) (flat_map write_bytes ws))
+
+writes_size : (ws : List Write) → length ws ≤ length (writes_bytes ws)
+unfolding writes_bytes
+writes_size ws = omega (arith, writes_some ws)
+
+-- a record has more bytes than writes
+record_size : (store : Bool) (c : Commit) → length c.writes ≤ length (record_bytes store c)
+unfolding record_bytes
+record_size store c =
+    let numbers = numbers_bytes (number_or_0 (own_of store c)) (other_of store c) in
+    let writes = writes_bytes c.writes in
+    omega (arith, length-append (label_bytes c.label) (numbers ++ writes), length-append numbers writes, writes_size c.writes)
+
+some_bytes : (store : Bool) (c : Commit) → 1 ≤ length (record_bytes store c)
+unfolding record_bytes label_bytes
+some_bytes store c = omega arith
+
+-- records have more bytes than there are of them
+records_size : (store : Bool) (cs : List Commit) → length cs ≤ length (records_bytes store cs)
+records_size store [] = omega arith
+records_size store (c ∷ cs) = omega (arith, some_bytes store c, records_size store cs, length-append (record_bytes store c) (records_bytes store cs))
+
+-- commits that a log of this engine may hold
+abbrev AreSure : List Table → Bool → ℕ → ℕ → List Commit → Type 0
+AreSure catalog store upto above [] = Unit {0}
+AreSure catalog store upto above (c ∷ cs) = IsRecord catalog store (above + 1) upto c × AreSure catalog store upto (number_or_0 (own_of store c)) cs
+
+-- what fits a log can be counted
+sure : (catalog : List Table) (store : Bool) (upto above : ℕ) (cs : List Commit) → AreRecords catalog store upto above cs → length (records_bytes store cs) < 2 ^ 32 → AreSure catalog store upto above cs
+sure catalog store upto above [] are small = tt
+sure catalog store upto above (c ∷ cs) are small =
+    let size = length-append (record_bytes store c) (records_bytes store cs) in
+    (are.0 (omega (arith, small, size, record_size store c)), sure catalog store upto (number_or_0 (own_of store c)) cs are.1 (omega (arith, small, size)))
 
 -- ---- records
 
@@ -44,7 +85,7 @@ pub record AreThere (read : Result (List Logged × Rest) Fault) (cs : List Commi
   pub reads : read ≡ Ok (logged, at file end more)
   pub told : commits logged ≡ cs
 
-records_there : (catalog : List Table) (store : Bool) (upto above : ℕ) (cs : List Commit) (file place : ℕ) (more : List ℕ) → AreRecords catalog store upto above cs → IsBytes (records_bytes store cs ++ more)
+records_there : (catalog : List Table) (store : Bool) (upto above : ℕ) (cs : List Commit) (file place : ℕ) (more : List ℕ) → AreSure catalog store upto above cs → IsBytes (records_bytes store cs ++ more)
     → AreThere (records_at catalog store (length cs) upto above (at file place (records_bytes store cs ++ more))) cs file (place + length (records_bytes store cs)) more
 unfolding items_at
 records_there catalog store upto above [] file place more are fits =
@@ -66,16 +107,12 @@ records_there catalog store upto above (c ∷ cs) file place more are fits =
       told = ap (λ (l : List Commit). c ∷ l) t.told;
     }
 
-some_bytes : (store : Bool) (c : Commit) → 1 ≤ length (record_bytes store c)
-unfolding record_bytes label_bytes
-some_bytes store c = omega arith
-
 pub record AreStored (read : Result (List Logged) Fault) (cs : List Commit) : Type 0 where
   pub logged : List Logged
   pub reads : read ≡ Ok logged
   pub told : commits logged ≡ cs
 
-records_stored : (catalog : List Table) (store : Bool) (fuel end upto above : ℕ) (cs : List Commit) (file place : ℕ) → AreRecords catalog store upto above cs → IsBytes (records_bytes store cs) → place + length (records_bytes store cs) ≡ end
+records_stored : (catalog : List Table) (store : Bool) (fuel end upto above : ℕ) (cs : List Commit) (file place : ℕ) → AreSure catalog store upto above cs → IsBytes (records_bytes store cs) → place + length (records_bytes store cs) ≡ end
     → length (records_bytes store cs) ≤ fuel → AreStored (records_to catalog store fuel end upto above (at file place (records_bytes store cs))) cs
 unfolding records_to
 records_stored catalog store zero end upto above [] file place are fits is enough = record { logged = []; reads = refl; told = refl }
@@ -140,7 +177,6 @@ head_there cut to before end file place more a b rises le small =
 -- the bytes of these commits behind these ends
 pub record AreTexts (catalog : List Table) (cut : Point) (ends : Ends) (to : Point) (mem store : List Commit) : Type 0 where
   pub group : IsGroup catalog cut to mem store
-  pub count : length mem < 2 ^ 32
   pub store_fits : ends.store_end + length (records_bytes true store) < 2 ^ 32
   pub body_fits : ends.gate + 5 + length (body_bytes to (ends.store_end + length (records_bytes true store)) mem) ≤ 4294967295
   pub store_bytes : IsBytes (records_bytes true store)
@@ -166,12 +202,13 @@ body_there catalog cut ends to mem store t =
     let records = records_bytes false mem in
     let le : ends.store_end ≤ end = omega arith in
     let h = head_there cut to ends.store_end end file place (to_be_bytes w32 (length mem) ++ records) g.a g.b g.rises le t.store_fits in
-    let n = number_there w32 (2 ^ 32) wide32 (length mem) file (place + 4 + 4 + 4) records t.count in
+    let size = body_size to end mem in
+    let few : length mem < 2 ^ 32 = omega (arith, t.body_fits, size, records_size false mem) in
+    let n = number_there w32 (2 ^ 32) wide32 (length mem) file (place + 4 + 4 + 4) records few in
     let bytes : IsBytes (records ++ []) = subst IsBytes (sym (append-nil records)) (subst IsBytes (records_behind to end mem) (IsBytes-drop 16 (body_bytes to end mem) t.text_bytes)) in
-    let f = records_there catalog false to.a cut.a mem file (place + 4 + 4 + 4 + 4) [] g.are_mem bytes in
+    let f = records_there catalog false to.a cut.a mem file (place + 4 + 4 + 4 + 4) [] (sure catalog false to.a cut.a mem g.are_mem (omega (arith, t.body_fits, size))) bytes in
     let found : records_at catalog false (length mem) to.a cut.a (at file (place + 4 + 4 + 4 + 4) records) ≡ Ok (f.logged, at file (place + 4 + 4 + 4 + 4 + length records) []) =
     ap (λ (l : List ℕ). records_at catalog false (length mem) to.a cut.a (at file (place + 4 + 4 + 4 + 4) l)) (sym (append-nil records)) ∙ f.reads in
-    let size = body_size to end mem in
     let there : (place + 4 + 4 + 4 + 4 + length records == ends.gate + 5 + length (body_bytes to end mem)) ≡ true = eq-eqb _ _ (omega (arith, size)) in
     (f.logged, rw (h, n, found, there) refl, f.told)
 
@@ -181,7 +218,7 @@ unfolding stored_of
 store_there catalog cut ends to mem store t =
     let size = length (records_bytes true store) in
     let fuel : size ≤ ends.store_end + size - ends.store_end = omega arith in
-    records_stored catalog true (ends.store_end + size - ends.store_end) (ends.store_end + size) to.b cut.b store (store_file ends.set) ends.store_end t.group.are_store t.store_bytes refl fuel
+    records_stored catalog true (ends.store_end + size - ends.store_end) (ends.store_end + size) to.b cut.b store (store_file ends.set) ends.store_end (sure catalog true to.b cut.b store t.group.are_store (omega (arith, t.store_fits))) t.store_bytes refl fuel
 
 group_there : (catalog : List Table) (cut : Point) (ends : Ends) (to : Point) (end next : ℕ) (fs gs : List Logged) (mem store : List Commit) → commits fs ≡ mem → commits gs ≡ store → ArePairs (filter is_both store) (filter is_both mem)
     → group_of (from_ends catalog cut ends) (record { cut = selection to.a to.b; end = end }) fs gs next ≡ Ok (record { catalog = catalog; set = ends.set; cut = selection to.a to.b; end = end; gate = next; mem = mem; store = store })

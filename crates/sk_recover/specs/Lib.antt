@@ -1,0 +1,5 @@
+pub mod Taking
+pub mod Maps
+pub mod Views
+pub mod Opened
+pub mod Making

@@ -1,0 +1,242 @@
+//! Opening over devices in memory: a new store, a store with one group, damaged files, and a store whose making was cut short.
+use super::*;
+use sk_device::{MemDevice, TearingDevice};
+use sk_log::What;
+use sk_model::{Point, Tables};
+use sk_rows::{Catalog, Column, List, Sort, Table, Txt, Value};
+use std::alloc::Global;
+use std::process::Abort;
+use std::test::Fail;
+
+/// The tables `a`, of the memory engine, and `c`, of the storage engine, each with an INT key `id` and an INT `v`, and no rows.
+const IMAGE: [u8; 32] = [
+    0, 2, 1, 97, 0, 2, 2, 105, 100, 0, 1, 118, 0, 1, 99, 1, 2, 2, 105, 100, 0, 1, 118, 0, 0, 0, 0,
+    0, 0, 0, 0, 0,
+];
+
+/// The open entry of a new store with this image and the cut (0, 0).
+const ROOT: [u8; 24] = [
+    1, 1, 0, 0, 0, 0, 0, 1, 0, 0, 0, 0, 0, 0, 0, 0, 0, 0, 0, 0, 0, 0, 0, 32,
+];
+
+/// One commit of both engines with the numbers 1 and 1, which wrote (1, 20) to `c` ..
+const STORE: [u8; 38] = [
+    0, 1, 0, 0, 0, 1, 1, 0, 0, 0, 1, 0, 0, 0, 1, 0, 0, 0, 1, 0, 1, 1, 0, 0, 0, 0, 0, 0, 0, 1, 0, 0,
+    0, 0, 0, 0, 0, 20,
+];
+
+/// .. and (1, 10) to `a`.
+const ANCHOR: [u8; 60] = [
+    1, 0, 0, 0, 54, 0, 0, 0, 1, 0, 0, 0, 1, 0, 0, 0, 38, 0, 0, 0, 1, 0, 1, 0, 0, 0, 1, 1, 0, 0, 0,
+    1, 0, 0, 0, 1, 0, 0, 0, 1, 0, 0, 1, 0, 0, 0, 0, 0, 0, 0, 1, 0, 0, 0, 0, 0, 0, 0, 10, 0,
+];
+
+const START: Point = Point {
+    a: 0,
+    b: 0,
+    commit: false,
+};
+
+fn table(alloc: Global, name: &[u8], store: bool) -> Result<Table, Fail> {
+    let mut columns = List::new(alloc);
+    for name in [b"id".as_slice(), b"v".as_slice()] {
+        let name = Txt::from_vec(name.to_vec(alloc)?).ok().ok_or("a name")?;
+        columns.push(Column {
+            name,
+            sort: Sort::Int,
+        })?;
+    }
+    Ok(Table {
+        name: Txt::from_vec(name.to_vec(alloc)?).ok().ok_or("a name")?,
+        store,
+        columns,
+    })
+}
+
+fn catalog(alloc: Global) -> Result<Catalog, Fail> {
+    let mut catalog = Catalog::new(alloc);
+    catalog
+        .add(table(alloc, b"a", false)?)
+        .ok()
+        .ok_or("a table")?;
+    catalog
+        .add(table(alloc, b"c", true)?)
+        .ok()
+        .ok_or("a table")?;
+    Ok(catalog)
+}
+
+/// A device with these files, and the image.
+fn disk(alloc: Global, root: &[u8], store: &[u8], anchor: &[u8]) -> Result<MemDevice, Fail> {
+    let mut disk = MemDevice::new(alloc, Vec::new(alloc), Vec::new(alloc));
+    disk.set(0, root.to_vec(alloc)?);
+    disk.set(1, store.to_vec(alloc)?);
+    disk.set(2, anchor.to_vec(alloc)?);
+    disk.set(5, IMAGE.to_vec(alloc)?);
+    Ok(disk)
+}
+
+fn changed(alloc: Global, bytes: &[u8], at: usize, byte: u8) -> Result<Vec<u8>, Fail> {
+    let mut bytes = bytes.to_vec(alloc)?;
+    if at < bytes.len() {
+        bytes[at] = byte;
+    }
+    Ok(bytes)
+}
+
+/// What opening these files is refused with.
+fn refusal(
+    alloc: Global,
+    root: &[u8],
+    store: &[u8],
+    anchor: &[u8],
+) -> Result<Option<OpenFault>, Fail> {
+    let mut disk = disk(alloc, root, store, anchor)?;
+    Ok(open(alloc, &mut disk, &catalog(alloc)?, START).err())
+}
+
+fn damaged(file: u8, place: u64, what: What) -> Option<OpenFault> {
+    Some(OpenFault::Damaged { file, place, what })
+}
+
+/// The second value of the first row of a table.
+fn value(rows: &Tables, table: usize) -> Option<i64> {
+    let (_, row) = rows.get(table)?.as_slice().first()?;
+    match row.get(1)? {
+        Value::Int(n) => Some(*n),
+        Value::Text(_) => None,
+        Value::Bool(_) => None,
+    }
+}
+
+#[test]
+fn a_new_store_is_made_and_a_group_is_read(rt: HostRuntime) -> Result<(), Fail> {
+    let alloc = rt.alloc();
+    let catalog = catalog(alloc)?;
+    let mut made = MemDevice::new(alloc, Vec::new(alloc), Vec::new(alloc));
+    let new = open(alloc, &mut made, &catalog, START)
+        .ok()
+        .ok_or("a new store")?;
+    assert!(rt; new.fresh);
+    assert_eq!(rt; made.bytes(0), ROOT.as_slice());
+    assert_eq!(rt; made.bytes(2), [0].as_slice());
+    assert_eq!(rt; made.bytes(5), IMAGE.as_slice());
+    let mut disk = disk(alloc, &ROOT, &STORE, &ANCHOR)?;
+    let store = open(alloc, &mut disk, &catalog, START)
+        .ok()
+        .ok_or("a store")?;
+    assert!(rt; !store.fresh);
+    assert_eq!(rt; store.catalog.tables().len(), 2);
+    assert_eq!(rt; (store.cut.a, store.cut.b), (1, 1));
+    assert_eq!(rt;
+        (store.ends.set, store.ends.store_end, store.ends.gate),
+        (0, 38, 59)
+    );
+    assert_eq!(rt; value(&store.rows, 0), Some(10));
+    assert_eq!(rt; value(&store.rows, 1), Some(20));
+    Ok(())
+}
+
+#[test]
+fn the_first_damaged_field_is_answered(rt: HostRuntime) -> Result<(), Fail> {
+    let alloc = rt.alloc();
+    let root = changed(alloc, &ROOT, 1, 9)?;
+    assert_eq!(rt;
+        refusal(alloc, &root, &STORE, &ANCHOR)?,
+        damaged(0, 1, What::Format)
+    );
+    let number = changed(alloc, &STORE, 10, 0)?;
+    assert_eq!(rt;
+        refusal(alloc, &ROOT, &number, &ANCHOR)?,
+        damaged(1, 7, What::Order)
+    );
+    let table = changed(alloc, &STORE, 20, 0)?;
+    assert_eq!(rt;
+        refusal(alloc, &ROOT, &table, &ANCHOR)?,
+        damaged(1, 19, What::Range)
+    );
+    let tag = changed(alloc, &STORE, 21, 2)?;
+    assert_eq!(rt;
+        refusal(alloc, &ROOT, &tag, &ANCHOR)?,
+        damaged(1, 21, What::Tag)
+    );
+    assert_eq!(rt;
+        refusal(alloc, &ROOT, &STORE[..37], &ANCHOR)?,
+        damaged(1, 30, What::Length)
+    );
+    let label = changed(alloc, &STORE, 5, 2)?;
+    assert_eq!(rt;
+        refusal(alloc, &ROOT, &label, &ANCHOR)?,
+        damaged(1, 0, What::Half)
+    );
+    let cut = changed(alloc, &ANCHOR, 12, 0)?;
+    assert_eq!(rt;
+        refusal(alloc, &ROOT, &STORE, &cut)?,
+        damaged(1, 7, What::Order)
+    );
+    assert_eq!(rt;
+        refusal(alloc, &ROOT, &STORE, &ANCHOR[..3])?,
+        damaged(2, 1, What::Length)
+    );
+    // A gate that is not 1 is no damage: nothing behind it counts.
+    let closed = changed(alloc, &ANCHOR, 0, 7)?;
+    assert_eq!(rt; refusal(alloc, &ROOT, &STORE, &closed)?, None);
+    let mut disk = disk(alloc, &changed(alloc, &ROOT, 0, 7)?, &STORE, &ANCHOR)?;
+    let new = open(alloc, &mut disk, &catalog(alloc)?, START)
+        .ok()
+        .ok_or("a new store")?;
+    assert!(rt; new.fresh);
+    Ok(())
+}
+
+/// Opening these files in a device of which these calls fail, of writes and syncs and of the others.
+fn failing(alloc: Global, change: u64, look: u64) -> Result<Option<OpenFault>, Fail> {
+    let mut changes = Vec::new(alloc);
+    changes.push(change)?;
+    let mut looks = Vec::new(alloc);
+    looks.push(look)?;
+    let mut disk = MemDevice::new(alloc, changes, looks);
+    disk.set(0, ROOT.to_vec(alloc)?);
+    disk.set(1, STORE.to_vec(alloc)?);
+    disk.set(2, ANCHOR.to_vec(alloc)?);
+    disk.set(5, IMAGE.to_vec(alloc)?);
+    Ok(open(alloc, &mut disk, &catalog(alloc)?, START).err())
+}
+
+#[test]
+fn a_failing_call_is_a_fault_of_the_device(rt: HostRuntime) -> Result<(), Fail> {
+    // Seven syncs; then a length and a read for each of the root, the image and both logs.
+    for change in 1..8 {
+        let fault = failing(rt.alloc(), change, 0)?;
+        assert_eq!(rt; fault, Some(OpenFault::Device));
+    }
+    for look in 1..9 {
+        let fault = failing(rt.alloc(), 0, look)?;
+        assert_eq!(rt; fault, Some(OpenFault::Device));
+    }
+    assert_eq!(rt; failing(rt.alloc(), 8, 9)?, None);
+    Ok(())
+}
+
+/// What a stop leaves of the making of a new store whose call of this number fails, where so many bytes stand of what was not synced.
+fn cut_short(alloc: Global, failing: u64, standing: u64) -> Result<MemDevice, Fail> {
+    let mut calls = Vec::new(alloc);
+    calls.push(failing)?;
+    let mut disk = TearingDevice::new(alloc, calls, Vec::new(alloc));
+    let _ = open(alloc, &mut disk, &catalog(alloc)?, START);
+    Ok(disk.stopped(&[standing])?)
+}
+
+#[test]
+fn a_store_opens_whatever_call_of_its_making_fails(rt: HostRuntime) -> Result<(), Fail> {
+    let alloc = rt.alloc();
+    // Seven syncs, and a write and a sync for each of five steps; the eighteenth call is never made.
+    for failing in 1..19 {
+        for standing in 0..4 {
+            let mut disk = cut_short(alloc, failing, standing * 11)?;
+            assert!(rt; open(alloc, &mut disk, &catalog(alloc)?, START).is_ok());
+            assert_eq!(rt; disk.bytes(0), ROOT.as_slice());
+        }
+    }
+    Ok(())
+}
