@@ -1,7 +1,7 @@
 -- Who appended the points, where a transaction goes on.
-use Rattle.std.specs.Prelude.{ℕ, List, [], ◌∷◌, ◌++◌, Bool, true, false, cond, ◌+◌, ◌≡◌, ◌<◌, ◌⊎◌}
+use Rattle.std.specs.Prelude.{ℕ, List, [], ◌∷◌, ◌++◌, true, false, cond, ◌+◌, ◌≡◌, ◌<◌, ◌⊎◌}
 use Rattle.std.proofs.Common.{refl, sym, ap, subst, ◌∙◌, inl, inr, ⊎_elim, arith}
-use Rattle.std.proofs.lemmas.Bool.{cases_Bool, cond_both, cond-true, cond-false, false≢true}
+use Rattle.std.proofs.lemmas.Bool.{cases_Bool, cond-true, cond-false, false≢true}
 use Rattle.sk_model.specs.declared.label.Label.{Label}
 use Rattle.sk_model.specs.declared.engine.EngineName.{EngineName}
 use Rattle.sk_model.specs.declared.engine.EngineName.TheVariants.{Mem, Store}
@@ -12,7 +12,7 @@ use Rattle.sk_model.proofs.Lists.{Each, each_append, each_weaker}
 use Rattle.sk_model.proofs.Labels.{same_is, same_itself}
 use Rattle.sk_weave.specs.Points.{Climbs, Staircase}
 use Rattle.sk_core.specs.Traces.{Transaction, Traces, In, Distinct, IsAtHorizons, MakerOf, PointsMade}
-use Rattle.sk_core.proofs.Members.{in_each, each_in, in_append, in_front, in_either, distinct_same}
+use Rattle.sk_core.proofs.Members.{in_each, each_in, in_append, in_front, in_either}
 use Rattle.sk_core.proofs.Growing.{put_transaction, each_put, in_put_new, in_put_old, grown}
 
 -- what the transaction of a label appended
