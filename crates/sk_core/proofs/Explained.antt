@@ -1,5 +1,5 @@
 -- What a transaction's events were replied goes with what its calls were answered, so one database replies it.
-use Rattle.std.specs.Prelude.{◌≡◌, ℕ, zero, suc, List, [], ◌∷◌, ◌++◌, Option, Some, None, Result, Ok, Err, Bool, true, false, cond, is_some, map}
+use Rattle.std.specs.Prelude.{◌≡◌, ℕ, zero, suc, List, [], ◌∷◌, ◌++◌, Option, Some, None, Result, Ok, Err, Bool, cond, is_some, map}
 use Rattle.std.proofs.Common.{refl, sym, ap, subst, ◌∙◌}
 use Rattle.std.specs.List.{flat_map}
 use Rattle.std.proofs.lemmas.Bool.{cond_both}
@@ -17,7 +17,6 @@ use Rattle.sk_model.specs.declared.point.Point.{Point}
 use Rattle.sk_model.specs.declared.point.Recycled.{Recycled}
 use Rattle.sk_model.specs.declared.call.EngineCall.{EngineCall}
 use Rattle.sk_model.specs.declared.call.EngineCall.TheVariants as call
-use Rattle.sk_model.specs.declared.call.EngineFault.{EngineFault}
 use Rattle.sk_model.specs.declared.call.EngineReply.{EngineReply}
 use Rattle.sk_model.specs.declared.call.EngineReply.TheVariants.{Done, Found, Rows, Number, Commits, Fault}
 use Rattle.sk_model.specs.declared.call.Entry.{Entry}
@@ -25,8 +24,8 @@ use Rattle.sk_model.specs.Database.{RowOf, KeyedRows, Tables, after_write, after
 use Rattle.sk_model.specs.Records.{same_label}
 use Rattle.sk_model.specs.Engine.{Version, EngineTable, opening_of}
 use Rattle.sk_model.specs.EngineReplies.{busy_or, answer_of}
-use Rattle.sk_model.specs.EngineConditions.{may, empty_of}
-use Rattle.sk_model.specs.Legal.{step, due}
+use Rattle.sk_model.specs.EngineConditions.{may}
+use Rattle.sk_model.specs.Legal.{due}
 use Rattle.sk_model.specs.Talks.{OwnCall, Talk, if_done, wrote_by, wrote_in, writes_in_call, puts_in, Shows, TalkTold}
 use Rattle.sk_model.proofs.Lists.{Each, each_weaker, each_both}
 use Rattle.sk_model.proofs.Bridging.{told_parts}
@@ -40,15 +39,14 @@ use Rattle.sk_core.specs.declared.event.Event.TheVariants as event
 use Rattle.sk_core.specs.declared.event.CoreReply.{CoreReply}
 use Rattle.sk_core.specs.declared.event.CoreReply.TheVariants as reply
 use Rattle.sk_core.specs.declared.record.Did.{Did}
-use Rattle.sk_core.specs.Traces.{drawn_at, Transaction, run_of, In}
+use Rattle.sk_core.specs.Traces.{drawn_at, Transaction, run_of}
 use Rattle.sk_core.specs.Headline.{Headline}
 use Rattle.sk_core.specs.State.{Both, of, with_of, other, Actor, transaction_of, Flush, Core, core_at, traces_of, table_of, counter}
-use Rattle.sk_core.specs.Plans.{Plan, nothing, only, answer, drops, begin_mem, begin_plan, select_plan, selects, open_plan, opens_store, engine_of, read_call, found_rows, read_plan, put_call, put_plan, close_plan, leave_plan, voids, draw_plan, floor_in, checks, check_plan, stamps, may_stamp_in, may_leave, may_stamp_now, may_check, may_draw, may_close, is_free, is_cross, is_opened, plan_for, actor_in, is_next, plan_new, plan_with}
-use Rattle.sk_core.specs.Machine.{entered, entries_of, calls_on, talk_of, recorded, put_actor, applied, Next, not_now, taken, for_label, lets, called, may_cut, is_greater, cut_taken, cut_next, flushed, flush_step, live_step, stopped_step, step as step_core, run}
-use Rattle.sk_core.specs.Runs.{Start, ran}
-use Rattle.sk_core.specs.Explaining.{write_done, did_write, event_wrote, GivesRows, asked_rows, EventShows, EventsTold, RunsAreExplained}
+use Rattle.sk_core.specs.Plans.{Plan, nothing, only, answer, drops, begin_mem, begin_plan, select_plan, selects, open_plan, opens_store, engine_of, read_call, found_rows, read_plan, put_call, put_plan, close_plan, leave_plan, voids, draw_plan, floor_in, checks, stamps, may_stamp_in, may_leave, plan_for, actor_in, is_next, plan_new, plan_with}
+use Rattle.sk_core.specs.Machine.{entered, entries_of, calls_on, talk_of, recorded, put_actor, applied, Next, not_now, taken, for_label, lets, may_cut, is_greater, cut_taken, cut_next, flushed, flush_step, live_step, stopped_step, step as step_core, run}
+use Rattle.sk_core.specs.Runs.{ran}
+use Rattle.sk_core.specs.Explaining.{did_write, event_wrote, GivesRows, asked_rows, EventShows, EventsTold, RunsAreExplained}
 use Rattle.sk_core.proofs.Members.{each_in}
-use Rattle.sk_core.proofs.Applying.{mem_on_store}
 use Rattle.sk_core.proofs.Events.{none_wrote, of_only, of_both, of_two}
 use Rattle.sk_core.proofs.Stepping.{actor_found, cut_core}
 use Rattle.sk_core.proofs.Theorem.{all_one}

@@ -34,7 +34,7 @@ use Rattle.sk_model.proofs.Order.{good_start}
 use Rattle.sk_weave.specs.Woven.{MemOk, StoreOk, CrossOk, MatchedAt, Matched, own_writes}
 use Rattle.sk_weave.specs.Reads.{owns, number_at, IsRun, first_table}
 use Rattle.sk_weave.proofs.Writers.{each_unfilter}
-use Rattle.sk_core.specs.Traces.{drawn_at, Transaction, Traces, commit_in, commits_in, run_of, stamp_entry, owes, stamp_if, owed_by, owed, In, IsOwn, close_entry, Drew, Belongs, Distinct, Unlike, CommitOf, Whose, Known, Linked}
+use Rattle.sk_core.specs.Traces.{drawn_at, Transaction, Traces, commit_in, commits_in, run_of, stamp_entry, owes, stamp_if, owed_by, owed, In, IsOwn, close_entry, Drew, Belongs, Distinct, DrewUnlike, CommitOf, Whose, Known, Linked}
 use Rattle.sk_core.proofs.Projection.{SplitBy, split_by, cons_tail, nil_cons, none_pass_filter, each_of_own, ends_by, puts_by}
 use Rattle.sk_core.proofs.Others.{NotUse, may_stamp_stays, may_stamp}
 use Rattle.sk_core.proofs.Stamps.{NotStamp, stamped_is_puts}
@@ -148,7 +148,7 @@ allowed_append e (x ∷ xs) ys l k = (l.0, allowed_append (step e x) xs ys l.1 k
 abbrev Ready : EngineName → EngineTable → Transaction → Type 0
 Ready s e r = (n : ℕ) → owes s r ≡ true → drawn_at s r.drew ≡ Some n → may e (call.Stamp r.label n) ≡ true
 
-owed_allowed : (s : EngineName) (e : EngineTable) (rs : List Transaction) → Each (Ready s e) rs → Distinct rs → Unlike s rs → Allowed e (owed s rs)
+owed_allowed : (s : EngineName) (e : EngineTable) (rs : List Transaction) → Each (Ready s e) rs → Distinct rs → DrewUnlike s rs → Allowed e (owed s rs)
 owed_allowed s e [] h d u = tt
 owed_allowed s e (r ∷ rs) h d u = go (owes s r) refl (drawn_at s r.drew) refl (λ f k. owed_allowed s f rs k d.1 u.1)
   where

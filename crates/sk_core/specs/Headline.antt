@@ -1,10 +1,10 @@
 -- What linked traces promise: each transaction reads one prefix of one list with its own writes, and the first committer wins.
-use Rattle.std.specs.Prelude.{◌≡◌, ℕ, ◌≤◌, List, [], ◌∷◌, true, false, IfSome}
+use Rattle.std.specs.Prelude.{◌≡◌, ℕ, ◌≤◌, List, [], true, IfSome}
 use Rattle.std.specs.List.{AllByRecursion}
 use Rattle.sk_model.specs.declared.engine.EngineName.{EngineName}
 use Rattle.sk_model.specs.declared.commit.Commit.{Commit}
 use Rattle.sk_model.specs.Database.{net}
-use Rattle.sk_model.specs.Records.{FirstWins, some_writes, same_label, own_place}
+use Rattle.sk_model.specs.Records.{FirstWins, Unlike, some_writes, own_place}
 use Rattle.sk_model.specs.Stamped.{number_in}
 use Rattle.sk_model.specs.Talks.{puts_in, TalkTold}
 use Rattle.sk_model.specs.Places.{place}
@@ -26,11 +26,6 @@ pub record Stands (order : List Commit) (t : Transaction) : Type 0 where
   pub among : In entry order
   pub is : entry.label ≡ t.label
 
--- no two commits have one label
-abbrev pub Once : List Commit → Type 0
-Once [] = Unit {0}
-Once (c ∷ cs) = AllByRecursion (λ (d : Commit). same_label c.label d.label ≡ false) cs × Once cs
-
 -- the length of the prefix that the transaction reads
 abbrev pub place_of : Run → Transaction → ℕ
 place_of run t = place (order_of run) t.snapshots.mem t.snapshots.store
@@ -45,7 +40,7 @@ pub record Headline (h : Traces) : Type 0 where
   -- the list is exactly what committed and wrote, each once
   pub authors : AllByRecursion (Author h.transactions) (order_of (run_of h))
   pub stands : AllByRecursion (λ (t : Transaction). t.committed ≡ true → some_writes (puts_in t.talk) ≡ true → Stands (order_of (run_of h)) t) h.transactions
-  pub once : Once (order_of (run_of h))
+  pub unlike : Unlike (order_of (run_of h))
   -- the first committer wins
   pub wins : AllByRecursion (WinsFirst (run_of h)) h.transactions
 
