@@ -11,7 +11,8 @@ use Rattle.sk_model.specs.declared.commit.Write.{Write}
 use Rattle.sk_model.specs.declared.point.Point.{Point}
 use Rattle.sk_codec.specs.declared.fault.Fault.{Fault}
 use Rattle.sk_codec.specs.Reading.{Rest, items_at}
-use Rattle.sk_codec.specs.Records.{record_at, top}
+use Rattle.sk_model.specs.Numbers.{greatest_number}
+use Rattle.sk_codec.specs.Records.{record_at}
 use Rattle.sk_codec.specs.Spelling.{IsRecord, own_of, other_of, number_or_0, label_bytes, numbers_bytes, write_bytes, writes_bytes, record_bytes}
 use Rattle.sk_codec.proofs.Parts.{IsBytes, IsBytes-drop, at, or_false, wide32, number_there, number_in_there}
 use Rattle.sk_codec.proofs.RecordLaws.{record_reads, record_takes}
@@ -163,12 +164,12 @@ not_both : (a b c d : ℕ) → ((a < c) ⊎ (b < d)) → (c == a) && (d == b) �
 not_both a b c d (inl lt) = and_left _ _ (ne_eqb c a (λ is. absurd (omega (arith, lt, is))))
 not_both a b c d (inr lt) = and_right _ _ (ne_eqb d b (λ is. absurd (omega (arith, lt, is))))
 
-head_there : (cut to : Point) (before end file place : ℕ) (more : List ℕ) → (cut.a ≤ to.a) × (to.a ≤ top) → (cut.b ≤ to.b) × (to.b ≤ top) → (cut.a < to.a) ⊎ (cut.b < to.b) → before ≤ end → end < 2 ^ 32
+head_there : (cut to : Point) (before end file place : ℕ) (more : List ℕ) → (cut.a ≤ to.a) × (to.a ≤ greatest_number) → (cut.b ≤ to.b) × (to.b ≤ greatest_number) → (cut.a < to.a) ⊎ (cut.b < to.b) → before ≤ end → end < 2 ^ 32
     → head_at cut before (at file place (head_bytes to end ++ more)) ≡ Ok (record { cut = selection to.a to.b; end = end }, at file (place + 4 + 4 + 4) more)
 unfolding head_at first_at second_at end_at head_bytes
 head_there cut to before end file place more a b rises le small =
-    let ra = number_in_there w32 (2 ^ 32) wide32 0 top to.a file place (to_be_bytes w32 to.b ++ (to_be_bytes w32 end ++ more)) (omega (arith, a.1)) (omega arith) a.1 in
-    let rb = number_in_there w32 (2 ^ 32) wide32 0 top to.b file (place + 4) (to_be_bytes w32 end ++ more) (omega (arith, b.1)) (omega arith) b.1 in
+    let ra = number_in_there w32 (2 ^ 32) wide32 0 greatest_number to.a file place (to_be_bytes w32 to.b ++ (to_be_bytes w32 end ++ more)) (omega (arith, a.1)) (omega arith) a.1 in
+    let rb = number_in_there w32 (2 ^ 32) wide32 0 greatest_number to.b file (place + 4) (to_be_bytes w32 end ++ more) (omega (arith, b.1)) (omega arith) b.1 in
     let re = number_there w32 (2 ^ 32) wide32 end file (place + 4 + 4) more small in
     rw (ra, le-ltb to.a cut.a a.0, rb, or_false _ _ (le-ltb to.b cut.b b.0) (not_both cut.a cut.b to.a to.b rises), re, le-ltb end before le) refl
 

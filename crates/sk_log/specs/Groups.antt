@@ -9,7 +9,8 @@ use Rattle.sk_model.specs.declared.point.Point.{Point}
 use Rattle.sk_codec.specs.declared.fault.What.TheVariants as what
 use Rattle.sk_codec.specs.declared.fault.Fault.{Fault}
 use Rattle.sk_codec.specs.Reading.{Rest, ◌>>=◌, wrong, number_at, number_in, items_at}
-use Rattle.sk_codec.specs.Records.{record_at, top}
+use Rattle.sk_model.specs.Numbers.{greatest_number}
+use Rattle.sk_codec.specs.Records.{record_at}
 use Rattle.sk_codec.specs.Spelling.{own_of, number_or_0}
 use Rattle.sk_log.specs.declared.logged.Logged.{Logged}
 use Rattle.sk_log.specs.declared.logged.Head.{Head}
@@ -40,13 +41,13 @@ records_to tables store (suc n) end upto above rest =
 -- cut a, which does not fall
 unfoldable pub first_at : Point → Rest → Result (ℕ × Rest) Fault
 first_at cut rest = do
-  a ← number_in w32 0 top rest
+  a ← number_in w32 0 greatest_number rest
   if nat_lt a.0 cut.a then Err (wrong what.Order rest) else Ok a
 
 -- cut b, which does not fall, and rises where a did not
 unfoldable pub second_at : Point → ℕ → Rest → Result (ℕ × Rest) Fault
 second_at cut a rest = do
-  b ← number_in w32 0 top rest
+  b ← number_in w32 0 greatest_number rest
   if nat_lt b.0 cut.b || (a == cut.a && b.0 == cut.b) then Err (wrong what.Order rest) else Ok b
 
 -- the end of the storage log, which does not fall

@@ -11,7 +11,7 @@ use Rattle.sk_codec.specs.declared.fault.What.{What}
 use Rattle.sk_codec.specs.declared.fault.What.TheVariants as what
 use Rattle.sk_codec.specs.declared.fault.Fault.{Fault}
 use Rattle.sk_codec.specs.Reading.{Rest, ◌>>=◌, wrong, number_at, number_in}
-use Rattle.sk_codec.specs.Records.{top}
+use Rattle.sk_model.specs.Numbers.{greatest_number}
 use Rattle.sk_log.specs.declared.ends.Ends.{Ends}
 use Rattle.sk_log.specs.declared.root.Root.{Root as AnyRoot}
 use Rattle.sk_log.specs.Calls.{store_file, anchor_file, image_file}
@@ -121,8 +121,8 @@ entry_at root at = do
   set ← byte_in 0 1 what.Tag format.1
   none ← byte_in 0 0 what.Tag set.1
   sequence ← number_at w32 none.1
-  a ← number_in w32 0 top sequence.1
-  b ← number_in w32 0 top a.1
+  a ← number_in w32 0 greatest_number sequence.1
+  b ← number_in w32 0 greatest_number a.1
   size ← number_at w64 b.1
   Ok (record { set = set.0; sequence = sequence.0; cut = selection a.0 b.0; size = size.0 })
 

@@ -1,11 +1,11 @@
 //! The root: which entry holds, and what it says.
 ghost use Rattle.std.specs.Prelude.{◌≡◌, ◌+◌, ◌<◌, ◌≤◌, length, take, drop, IfOk, IfSome, IsTrue};
 ghost use Rattle.sk_codec.specs.Reading.{Gives, IsPlace, rest_of};
-ghost use Rattle.sk_codec.specs.Records.{top};
+ghost use Rattle.sk_model.specs.Numbers.{greatest_number};
 ghost use Rattle.sk_log.specs.Stores.{is_open, sequence_of, holding, byte_in, entry_at, root_of};
 
 use sk_codec::{Fault, ReadFault, Rest, What, u8_at, u32_at, u32_in, u64_at, wrong};
-use sk_model::Point;
+use sk_model::{GREATEST_NUMBER, Point};
 
 fn is_open(root: &[u8], at: usize) -> bool
     requires { at ≤ 24 }
@@ -98,7 +98,7 @@ pub fn entry_at(root: &[u8], at: usize) -> Result<Root, ReadFault>
     requires whole { at + 24 ≤ length root.now }
     ensures value { Gives root_of result (entry_at root.now at) }
     ensures set { IfOk result (λ x. x.set < 2) }
-    ensures cut { IfOk result (λ x. (x.cut.a ≤ top) × (x.cut.b ≤ top)) }
+    ensures cut { IfOk result (λ x. (x.cut.a ≤ greatest_number) × (x.cut.b ≤ greatest_number)) }
 {
     let rest = Rest {
         file: 0,
@@ -109,8 +109,8 @@ pub fn entry_at(root: &[u8], at: usize) -> Result<Root, ReadFault>
     let (set, after) = byte_in(0, 1, What::Tag, after)?;
     let (_, after) = byte_in(0, 0, What::Tag, after)?;
     let (sequence, after) = u32_at(after)?;
-    let (a, after) = u32_in(0, 2147483647, after)?;
-    let (b, after) = u32_in(0, 2147483647, after)?;
+    let (a, after) = u32_in(0, GREATEST_NUMBER, after)?;
+    let (b, after) = u32_in(0, GREATEST_NUMBER, after)?;
     let (size, _) = u64_at(after)?;
     let cut = Point {
         a,

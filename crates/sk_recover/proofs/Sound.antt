@@ -23,7 +23,7 @@ use Rattle.sk_model.specs.Database.{RowOf, KeyedRows, Tables, rows_with, table_o
 use Rattle.sk_codec.specs.declared.fault.Fault.{Fault}
 use Rattle.sk_codec.specs.declared.fault.What.TheVariants as what
 use Rattle.sk_codec.specs.Reading.{Rest, ◌>>=◌, number_at, number_in}
-use Rattle.sk_codec.specs.Records.{top}
+use Rattle.sk_model.specs.Numbers.{greatest_number}
 use Rattle.sk_codec.proofs.Parts.{bind_ok, ok_is}
 use Rattle.sk_log.specs.Images.{rows_at, each_at, all_rows_at}
 use Rattle.sk_log.specs.Stores.{Root, byte_in, entry_at, no_rows}
@@ -119,7 +119,7 @@ entry_cut root at r e =
     let s = bind_ok (byte_in 0 1 what.Tag f.0.1) _ _ f.2 in
     let z = bind_ok (byte_in 0 0 what.Tag s.0.1) _ _ s.2 in
     let q = bind_ok (number_at w32 z.0.1) _ _ z.2 in
-    let a = bind_ok (number_in w32 0 top q.0.1) _ _ q.2 in
-    let b = bind_ok (number_in w32 0 top a.0.1) _ _ a.2 in
+    let a = bind_ok (number_in w32 0 greatest_number q.0.1) _ _ q.2 in
+    let b = bind_ok (number_in w32 0 greatest_number a.0.1) _ _ a.2 in
     let n = bind_ok (number_at w64 b.0.1) _ _ b.2 in
     ap (λ (x : Root). x.cut.commit) (sym (ok_is _ _ n.2))

@@ -5,7 +5,7 @@ use Rattle.std.specs.FinMap.{is_sorted}
 use Rattle.sk_device.specs.Disk.{Image}
 use Rattle.sk_rows.specs.Values.{value_cmp}
 use Rattle.sk_model.specs.Database.{Tables, table_of}
-use Rattle.sk_codec.specs.Records.{top}
+use Rattle.sk_model.specs.Numbers.{greatest_number}
 use Rattle.sk_codec.specs.declared.fault.Fault.{Fault}
 use Rattle.sk_codec.specs.declared.fault.ReadFault.{ReadFault}
 use Rattle.sk_codec.specs.declared.fault.ReadFault.TheVariants as read_fault
@@ -98,8 +98,8 @@ AreOrdered rows = (t : ℕ) → T (is_sorted value_cmp (table_of rows t))
 pub record IsSound (o : Opened) : Type 0 where
   pub set : o.ends.set < 2
   pub selection : o.cut.commit ≡ false
-  pub mem : o.cut.a ≤ top
-  pub store : o.cut.b ≤ top
+  pub mem : o.cut.a ≤ greatest_number
+  pub store : o.cut.b ≤ greatest_number
   pub count : length o.rows ≡ length o.catalog
   pub ordered : AreOrdered o.rows
 

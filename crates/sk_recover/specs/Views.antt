@@ -7,7 +7,7 @@ use Rattle.sk_rows.specs.declared.table.Table.{Table}
 use Rattle.sk_codec.specs.declared.fault.Fault.{Fault}
 use Rattle.sk_codec.specs.Reading.{Rest, Fails, items_at}
 use Rattle.sk_codec.specs.declared.fault.ReadFault.{ReadFault}
-use Rattle.sk_codec.specs.Records.{top}
+use Rattle.sk_model.specs.Numbers.{greatest_number}
 use Rattle.sk_recover.specs.declared.turn.Turned.{Turned}
 use Rattle.sk_recover.specs.declared.turn.Turned.TheVariants as turned
 use Rattle.sk_log.specs.Stores.{Reached, turn}
@@ -35,8 +35,8 @@ reached_of catalog r = record { catalog = catalog; set = r.set; cut = r.cut; end
 -- what holds of a place between two groups that was read
 pub record IsReached (r : AnyReached) : Type 0 where
   pub set : r.set < 2
-  pub mem : r.cut.a ≤ top
-  pub store : r.cut.b ≤ top
+  pub mem : r.cut.a ≤ greatest_number
+  pub store : r.cut.b ≤ greatest_number
   pub selection : r.cut.commit ≡ false
 
 abbrev pub reached_in : Turned → AnyReached

@@ -3,7 +3,7 @@
 ghost use Rattle.std.specs.Prelude.{◌≡◌, ◌<◌, ◌≤◌, ◌+◌, ◌-◌, ◌^◌, ◌∷◌, [], true, false, length, drop, take, IfOk, IfSome, IfNone};
 ghost use Rattle.std.specs.List.{filter};
 ghost use Rattle.sk_codec.specs.Reading.{Gives, IsPlace, rest_of};
-ghost use Rattle.sk_codec.specs.Records.{top};
+ghost use Rattle.sk_model.specs.Numbers.{greatest_number};
 ghost use Rattle.sk_log.specs.Calls.{store_file, anchor_file};
 ghost use Rattle.sk_log.specs.Groups.{number_of, logged_at, records_at, records_to, first_at, second_at, end_at, head_at, body_at, same_number, same_label, is_half, is_cross, half_at, halves};
 ghost use Rattle.sk_log.specs.Stores.{range_of, body_of, stored_of, group_at, next_gate, turn, turns};
@@ -11,7 +11,7 @@ ghost use Rattle.sk_codec.specs.declared.fault.ReadFault.TheVariants.{Wrong};
 
 use sk_codec::{Fault, ReadFault, Rest, What, record_at, u32_at, u32_in, wrong};
 use sk_log::{Head, Logged};
-use sk_model::{Commit, CommitList, Label, Point};
+use sk_model::{Commit, CommitList, GREATEST_NUMBER, Label, Point};
 use sk_rows::Table;
 use std::alloc::Global;
 
@@ -26,10 +26,10 @@ fn logged_at<'a>(
     rest: Rest<'a>,
 ) -> Result<(Logged, Rest<'a>), ReadFault>
     requires place { IsPlace rest.place rest.bytes.now }
-    requires above { above ≤ top }
+    requires above { above ≤ greatest_number }
     ensures value { Gives (λ x. (x.0, rest_of x.1)) result (logged_at tables.now store upto above (rest_of rest.entry)) }
     ensures place { IfOk result (λ x. IsPlace x.1.place x.1.bytes.now) }
-    ensures small { IfOk result (λ x. number_of store x.0 ≤ top) }
+    ensures small { IfOk result (λ x. number_of store x.0 ≤ greatest_number) }
 {
     let (commit, after) = record_at(alloc, tables, store, above + 1, upto, rest)?;
     let place = rest.place;
@@ -60,7 +60,7 @@ fn records_at<'a>(
     rest: Rest<'a>,
 ) -> Result<(Vec<Logged>, Rest<'a>), ReadFault>
     requires place { IsPlace rest.place rest.bytes.now }
-    requires above { above ≤ top }
+    requires above { above ≤ greatest_number }
     ensures value { Gives (λ x. (x.0.items, rest_of x.1)) result (records_at tables.now store count upto above (rest_of rest.entry)) }
     ensures place { IfOk result (λ x. IsPlace x.1.place x.1.bytes.now) }
 {
@@ -81,9 +81,9 @@ fn first_at<'a>(cut: &Point, rest: Rest<'a>) -> Result<(u32, Rest<'a>), ReadFaul
     requires { IsPlace rest.place rest.bytes.now }
     ensures value { Gives (λ x. (x.0, rest_of x.1)) result (first_at cut.now (rest_of rest.entry)) }
     ensures place { IfOk result (λ x. IsPlace x.1.place x.1.bytes.now) }
-    ensures small { IfOk result (λ x. x.0 ≤ top) }
+    ensures small { IfOk result (λ x. x.0 ≤ greatest_number) }
 {
-    let (a, after) = u32_in(0, 2147483647, rest)?;
+    let (a, after) = u32_in(0, GREATEST_NUMBER, rest)?;
     if a < cut.a {
         return Err(wrong(What::Order, rest));
     }
@@ -95,9 +95,9 @@ fn second_at<'a>(cut: &Point, a: u32, rest: Rest<'a>) -> Result<(u32, Rest<'a>),
     requires { IsPlace rest.place rest.bytes.now }
     ensures value { Gives (λ x. (x.0, rest_of x.1)) result (second_at cut.now a (rest_of rest.entry)) }
     ensures place { IfOk result (λ x. IsPlace x.1.place x.1.bytes.now) }
-    ensures small { IfOk result (λ x. x.0 ≤ top) }
+    ensures small { IfOk result (λ x. x.0 ≤ greatest_number) }
 {
-    let (b, after) = u32_in(0, 2147483647, rest)?;
+    let (b, after) = u32_in(0, GREATEST_NUMBER, rest)?;
     if b < cut.b || (a == cut.a && b == cut.b) {
         return Err(wrong(What::Order, rest));
     }
@@ -123,7 +123,7 @@ pub fn head_at<'a>(cut: &Point, end: u32, rest: Rest<'a>) -> Result<(Head, Rest<
     requires { IsPlace rest.place rest.bytes.now }
     ensures value { Gives (λ x. (x.0, rest_of x.1)) result (head_at cut.now end (rest_of rest.entry)) }
     ensures place { IfOk result (λ x. IsPlace x.1.place x.1.bytes.now) }
-    ensures small { IfOk result (λ x. (x.0.cut.a ≤ top) × (x.0.cut.b ≤ top) × (end ≤ x.0.end)) }
+    ensures small { IfOk result (λ x. (x.0.cut.a ≤ greatest_number) × (x.0.cut.b ≤ greatest_number) × (end ≤ x.0.end)) }
     ensures selection { IfOk result (λ x. x.0.cut.commit ≡ false) }
 {
     let (a, after) = first_at(cut, rest)?;
@@ -148,7 +148,7 @@ pub fn body_at(
     rest: Rest<'_>,
 ) -> Result<Vec<Logged>, ReadFault>
     requires place { IsPlace rest.place rest.bytes.now }
-    requires above { above ≤ top }
+    requires above { above ≤ greatest_number }
     ensures value { Gives (λ x. x.items) result (body_at tables.now above upto end (rest_of rest.entry)) }
 {
     let (count, after) = u32_at(rest)?;
@@ -170,7 +170,7 @@ pub fn records_to<'a>(
     rest: Rest<'a>,
 ) -> Result<Vec<Logged>, ReadFault>
     requires place { IsPlace rest.place rest.bytes.now }
-    requires above { above ≤ top }
+    requires above { above ≤ greatest_number }
     ensures value { Gives (λ x. x.items) result (records_to tables.now true fuel end upto above (rest_of rest.entry)) }
 {
     let mut logged = Vec::new(alloc);

@@ -3,6 +3,7 @@ ghost use Rattle.std.specs.Prelude.{◌≡◌, ◌+◌, ◌*◌, ◌<◌, ◌≤
 ghost use Rattle.sk_outside.specs.Causes.{HasCause};
 ghost use Rattle.sk_device.specs.Disk.{Torn, Looks, Steps, IsSettled};
 ghost use Rattle.sk_rows.specs.declared.table.Table.{Table as AnyTable};
+ghost use Rattle.sk_model.specs.Numbers.{greatest_number};
 ghost use Rattle.sk_model.specs.declared.point.Point.{Point as Cut};
 ghost use Rattle.sk_log.specs.Calls.{Stands};
 ghost use Rattle.sk_recover.specs.Making.{AllImages, CanShut, IsShut, IsMade, IsEmptyImage, Reopens, Remakes, entry_text};
@@ -55,9 +56,9 @@ pub fn make_store<D: Device>(
     needed: bool,
 ) -> Result<(), Failed>
     requires { IsTrue (D.disk).tells → AllImages D.disk (CanShut needed) disk.old }
-    ensures steps { (catalog : List AnyTable) (start : Cut) → IsEmptyImage catalog image.now → entry.now ≡ entry_text start (length image.now) → start.commit ≡ false → start.a ≤ 2147483647 → start.b ≤ 2147483647 → length image.now < 2 ^ 64 → IsTrue (D.disk).tells
+    ensures steps { (catalog : List AnyTable) (start : Cut) → IsEmptyImage catalog image.now → entry.now ≡ entry_text start (length image.now) → start.commit ≡ false → start.a ≤ greatest_number → start.b ≤ greatest_number → length image.now < 2 ^ 64 → IsTrue (D.disk).tells
         → Steps D.disk (Reopens catalog start) disk.old disk.new }
-    ensures made { (catalog : List AnyTable) (start : Cut) → IsEmptyImage catalog image.now → entry.now ≡ entry_text start (length image.now) → start.commit ≡ false → start.a ≤ 2147483647 → start.b ≤ 2147483647 → length image.now < 2 ^ 64 → IsTrue (D.disk).tells
+    ensures made { (catalog : List AnyTable) (start : Cut) → IsEmptyImage catalog image.now → entry.now ≡ entry_text start (length image.now) → start.commit ≡ false → start.a ≤ greatest_number → start.b ≤ greatest_number → length image.now < 2 ^ 64 → IsTrue (D.disk).tells
         → OnOk result (AllImages D.disk (IsMade catalog start) disk.new) }
     ensures cause { HasCause (D.faults disk.old) (D.faults disk.new) result }
 {

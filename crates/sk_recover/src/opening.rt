@@ -4,7 +4,7 @@ ghost use Rattle.std.specs.Prelude.{◌≡◌, ◌≢◌, ◌⊎◌, ◌<◌, �
 ghost use Rattle.sk_outside.specs.Causes.{Rose};
 ghost use Rattle.sk_device.specs.Disk.{IsSettled, Looks, Steps};
 ghost use Rattle.sk_rows.specs.declared.table.Table.{Table as AnyTable};
-ghost use Rattle.sk_codec.specs.Records.{top};
+ghost use Rattle.sk_model.specs.Numbers.{greatest_number};
 ghost use Rattle.sk_log.specs.Groups.{selection};
 ghost use Rattle.sk_log.specs.Growth.{OpensAs, OpensAt};
 ghost use Rattle.sk_log.specs.Stores.{holding, new_store, open_from, root_of};
@@ -89,7 +89,7 @@ fn stored_of(
     two: &[u8],
 ) -> Result<Stored, OpenFault>
     requires set { root.now.set < 2 }
-    requires cut { (root.now.cut.a ≤ top) × (root.now.cut.b ≤ top) }
+    requires cut { (root.now.cut.a ≤ greatest_number) × (root.now.cut.b ≤ greatest_number) }
     requires selection { root.now.cut.commit ≡ false }
     ensures value { Tells opening_of result (stored_at (root_of root.now) base.now one.now two.now) }
     ensures sound { IfOk result (λ s. IsStored s) }
@@ -165,7 +165,7 @@ pub fn open_with<D: Device>(
     image: &[u8],
     start: Point,
 ) -> Result<Opening, OpenFault>
-    requires start { (start.commit ≡ false) × (start.a ≤ 2147483647) × (start.b ≤ 2147483647) }
+    requires start { (start.commit ≡ false) × (start.a ≤ greatest_number) × (start.b ≤ greatest_number) }
     // At each moment an image opens as one that a stop at the start might have left.
     ensures any_moment { (catalog : List AnyTable) → IsTrue (D.disk).tells → IsEmptyImage catalog image.now → Steps D.disk (Reopens catalog start) disk.old disk.new }
     // A store that was made stands in every image.
@@ -207,7 +207,7 @@ pub fn open_store<D: Device>(
     catalog: &Catalog,
     start: Point,
 ) -> Result<Opening, OpenFault>
-    requires start { (start.commit ≡ false) × (start.a ≤ 2147483647) × (start.b ≤ 2147483647) }
+    requires start { (start.commit ≡ false) × (start.a ≤ greatest_number) × (start.b ≤ greatest_number) }
     // At each moment an image opens as one that a stop at the start might have left.
     ensures any_moment { IsTrue (D.disk).tells → Steps D.disk (Reopens catalog.now start) disk.old disk.new }
     // A store that was made stands in every image.
@@ -247,7 +247,7 @@ pub struct Opened {
 
 /// The new store of this catalog.
 fn made(alloc: Global, catalog: &Catalog, start: Point) -> Result<Opened, OpenFault>
-    requires start { (start.commit ≡ false) × (start.a ≤ 2147483647) × (start.b ≤ 2147483647) }
+    requires start { (start.commit ≡ false) × (start.a ≤ greatest_number) × (start.b ≤ greatest_number) }
     ensures ok { IfOk result (λ o. IsOpened o (new_store catalog.now start)) }
     ensures fresh { IfOk result (λ o. o.fresh ≡ true) }
     ensures sound { IfOk result (λ o. IsSound o) }
@@ -300,7 +300,7 @@ fn loaded(alloc: Global, stored: Stored) -> Result<Opened, OpenFault>
 /// Opens the store of a disk, in which files 0 to 6 are synced first, so that nothing is pending. Where no root entry is open it
 /// makes a new one with this catalog and this cut, without rows.
 ///
-/// `start` has to be a selection with numbers of at most 2147483647. After `Device` the disk is to be opened again.
+/// `start` has to be a selection with numbers of at most 2,147,483,647. After `Device` the disk is to be opened again.
 #[tactic(auto, using(crate::proofs::Opens::opens_to, crate::proofs::Opens::all_stand, crate::proofs::Opens::all_begin))]
 pub fn open<D: Device>(
     alloc: Global,
@@ -308,7 +308,7 @@ pub fn open<D: Device>(
     catalog: &Catalog,
     start: Point,
 ) -> Result<Opened, OpenFault>
-    requires start { (start.commit ≡ false) × (start.a ≤ 2147483647) × (start.b ≤ 2147483647) }
+    requires start { (start.commit ≡ false) × (start.a ≤ greatest_number) × (start.b ≤ greatest_number) }
     // The answer is what the disk as it reads opens as, or its first fault.
     ensures value { IsTrue (D.disk).tells → OpensTo catalog.now start ((D.disk).seen disk.old) result }
     // It is a new store exactly where no root entry is open.

@@ -3,7 +3,7 @@
 ghost use Rattle.std.specs.Prelude.{◌≡◌, ◌<◌, ◌≤◌, ◌+◌, ◌++◌, false, List, length, drop, IfOk, IfErr, OnOk};
 ghost use Rattle.sk_rows.specs.declared.table.Table.{Table as AnyTable};
 ghost use Rattle.sk_codec.specs.Reading.{Gives};
-ghost use Rattle.sk_codec.specs.Records.{top};
+ghost use Rattle.sk_model.specs.Numbers.{greatest_number};
 ghost use Rattle.sk_log.specs.Stores.{at_place, commits, range_of, body_of, stored_of, group_of, group_at, next_gate, behind_gate, turn, turns};
 ghost use Rattle.sk_recover.specs.Views.{reached_of, reached_in, IsReached, IsTurn};
 ghost use Rattle.sk_codec.specs.declared.fault.ReadFault.TheVariants.{Wrong, NoMemory};
@@ -78,9 +78,9 @@ fn body_of(
     two: &[u8],
 ) -> Result<(Head, Vec<Logged>), ReadFault>
     requires set { s.now.set < 2 }
-    requires cut { s.now.cut.a ≤ top }
+    requires cut { s.now.cut.a ≤ greatest_number }
     ensures value { Gives (λ x. (x.0, x.1.items)) result (body_of (reached_of tables.now s.now) next (range_of two.now (s.now.gate + 5) next)) }
-    ensures small { IfOk result (λ x. (x.0.cut.a ≤ top) × (x.0.cut.b ≤ top) × (s.now.end ≤ x.0.end)) }
+    ensures small { IfOk result (λ x. (x.0.cut.a ≤ greatest_number) × (x.0.cut.b ≤ greatest_number) × (s.now.end ≤ x.0.end)) }
     ensures selection { IfOk result (λ x. x.0.cut.commit ≡ false) }
 {
     let rest = Rest {
@@ -102,7 +102,7 @@ fn stored_of(
     one: &[u8],
 ) -> Result<Vec<Logged>, ReadFault>
     requires set { s.now.set < 2 }
-    requires cut { s.now.cut.b ≤ top }
+    requires cut { s.now.cut.b ≤ greatest_number }
     requires end { s.now.end ≤ head.now.end }
     ensures { Gives (λ x. x.items) result (stored_of (reached_of tables.now s.now) head.now (range_of one.now s.now.end head.now.end)) }
 {
