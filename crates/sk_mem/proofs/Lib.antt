@@ -2,4 +2,5 @@ pub mod Maps
 pub mod Starting
 pub mod Listing
 pub mod Scans
+pub mod Forgetting
 pub mod Showing

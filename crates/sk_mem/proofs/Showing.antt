@@ -14,11 +14,11 @@ use Rattle.sk_model.specs.Database.{RowOf}
 use Rattle.sk_chain.specs.Chained.{Chained}
 use Rattle.sk_chain.specs.Writing.{conflict, is_by, past_of}
 use Rattle.sk_chain.specs.Changing.{pushed, trimmed}
-use Rattle.sk_chain.proofs.Trimming.{last_upto_kept, last_kept}
 use Rattle.sk_engine.specs.Rows.{Chains, is_row_id, with_chain, reading, row_in, GivesReply, Scans, Pushed, AgreeFrom, ChainsAgree}
 use Rattle.sk_mem.specs.Chains.{chain_at, is_at_row, Shows, Answers, Wrote}
 use Rattle.sk_mem.specs.Scanning.{ScansTable}
 use Rattle.sk_mem.proofs.Maps.{row_is}
+use Rattle.sk_mem.proofs.Forgetting.{itself}
 
 abbrev Maps : Type 0
 Maps = List (BTreeMap Value Chained)
@@ -104,26 +104,15 @@ module _ {S : Type 0} (shows : S → List Table → Chains → Type 0) (before n
   pushes (Err (fault.Old a b)) w = absurd w
   pushes (Err (fault.Busy other)) w = absurd w
 
-trim_agrees : (u : ℕ) (c : Chained) → AgreeFrom u c (trimmed c u)
-trim_agrees u c = record {
-  top = refl;
-  reads = λ s l. ap row_in (last_upto_kept u s l c.settled);
-  last = λ s l. ap (past_of s) (last_kept u c.settled);
-}
-
-itself : (u : ℕ) (c : Chained) → AgreeFrom u c c
-itself u c = record { top = refl; reads = λ s l. refl; last = λ s l. refl }
-
 -- what was given up of a row nobody from the number on finds
 pub forgets : (catalog : List Table) (old new : Maps) (tables : List Table) (chains : Chains) (u : ℕ) (key : Value) (upto : ℕ) → Shows catalog old tables chains → length new ≡ length old
-    → ((t : ℕ) (k : Value) → chain_at new t k ≡ cond (is_at_row t k u key) (trimmed (chain_at old t k) upto) (chain_at old t k))
+    → AgreeFrom upto (chain_at old u key) (chain_at new u key) → ((t : ℕ) (k : Value) → is_at_row t k u key ≡ false → chain_at new t k ≡ chain_at old t k)
     → (then : Chains) × ChainsAgree upto chains then × Shows catalog new tables then
-forgets catalog old new tables chains u key upto h len is =
-    (chain_at new, λ t k. agrees t k, record { catalog = h.catalog; count = len ∙ h.count; chains = λ t k. refl })
+forgets catalog old new tables chains u key upto h len here others =
+    (chain_at new, λ t k. subst (λ d. AgreeFrom upto d (chain_at new t k)) (sym (h.chains t k)) (go t k (is_at_row t k u key) refl), record { catalog = h.catalog; count = len ∙ h.count; chains = λ t k. refl })
   where
-    agrees : (t : ℕ) (k : Value) → AgreeFrom upto (chains t k) (chain_at new t k)
-    agrees t k = subst (λ c. AgreeFrom upto (chains t k) c) (sym (is t k)) (subst (λ d. AgreeFrom upto d (cond (is_at_row t k u key) (trimmed (chain_at old t k) upto) (chain_at old t k))) (sym (h.chains t k)) (go (is_at_row t k u key)))
-      where
-        go : (b : Bool) → AgreeFrom upto (chain_at old t k) (cond b (trimmed (chain_at old t k) upto) (chain_at old t k))
-        go true = trim_agrees upto (chain_at old t k)
-        go false = itself upto (chain_at old t k)
+    go : (t : ℕ) (k : Value) (b : Bool) → is_at_row t k u key ≡ b → AgreeFrom upto (chain_at old t k) (chain_at new t k)
+    go t k true e =
+        let at : (t ≡ u) × (k ≡ key) = row_is t k u key e in
+        subst (λ n. AgreeFrom upto (chain_at old n k) (chain_at new n k)) (sym at.0) (subst (λ q. AgreeFrom upto (chain_at old u q) (chain_at new u q)) (sym at.1) here)
+    go t k false e = subst (λ d. AgreeFrom upto (chain_at old t k) d) (sym (others t k e)) (itself upto (chain_at old t k))

@@ -1,6 +1,6 @@
 //! The chains of the tables, and what one call does to them.
 
-ghost use Rattle.std.specs.Prelude.{◌≡◌, ◌<◌, ℕ, None, true, false, cond, length};
+ghost use Rattle.std.specs.Prelude.{◌≡◌, ◌<◌, ℕ, None, true, false, cond, length, IsTrue};
 ghost use Rattle.std.specs.Ordering.{eq_by_cmp};
 ghost use Rattle.sk_rows.specs.declared.value.Value.{Value as AnyValue};
 ghost use Rattle.sk_rows.specs.Values.{value_cmp};
@@ -8,7 +8,8 @@ ghost use Rattle.sk_model.specs.declared.call.EngineReply.TheVariants.{Found};
 ghost use Rattle.sk_chain.specs.Promise.{replied};
 ghost use Rattle.sk_chain.specs.Writing.{conflict};
 ghost use Rattle.sk_chain.specs.Changing.{may_push, trimmed};
-ghost use Rattle.sk_engine.specs.Rows.{acted, given, reading};
+ghost use Rattle.sk_chain.specs.Chained.{empty};
+ghost use Rattle.sk_engine.specs.Rows.{acted, given, reading, AgreeFrom};
 ghost use Rattle.sk_mem.specs.Chains.{chain_of, chain_at, is_at_row, Answers, Wrote};
 
 use sk_chain::{Chain, Seen};
@@ -225,6 +226,19 @@ pub(crate) fn act_at(tables: &mut Vec<RowMap>, table: u16, key: &Value, act: Act
     }
 }
 
+/// Whether each reader at a snapshot from this number on finds the row absent, and each writer there meets nobody.
+fn is_gone(chain: &Chain, upto: u32) -> bool
+    ensures { IsTrue result → AgreeFrom upto chain.now empty }
+{
+    if chain.version(1).is_some() {
+        return false;
+    }
+    match chain.stamped_upto(upto) {
+        Some(version) => version.row.is_none(),
+        None => false,
+    }
+}
+
 fn trim_in(rows: &mut RowMap, key: &Value, upto: u32)
     ensures { (q : AnyValue) → chain_of rows.new.entries q ≡ cond (eq_by_cmp value_cmp key.now q) (trimmed (chain_of rows.old.entries q) upto) (chain_of rows.old.entries q) }
 {
@@ -233,14 +247,37 @@ fn trim_in(rows: &mut RowMap, key: &Value, upto: u32)
     }
 }
 
-/// Gives up the versions of a row that only snapshots before this number need.
-pub(crate) fn trim_at(tables: &mut Vec<RowMap>, table: u16, key: &Value, upto: u32)
+/// Takes the chain of a row that is gone out of the map.
+fn drop_gone(rows: &mut RowMap, key: &Value, upto: u32)
+    ensures here { AgreeFrom upto (chain_of rows.old.entries key.now) (chain_of rows.new.entries key.now) }
+    ensures others { (q : AnyValue) → eq_by_cmp value_cmp key.now q ≡ false → chain_of rows.new.entries q ≡ chain_of rows.old.entries q }
+{
+    let gone = match rows.get(key) {
+        Some(chain) => is_gone(chain, upto),
+        None => false,
+    };
+    if gone {
+        rows.remove(key);
+    }
+}
+
+fn forget_in(rows: &mut RowMap, key: &Value, upto: u32)
+    ensures here { AgreeFrom upto (chain_of rows.old.entries key.now) (chain_of rows.new.entries key.now) }
+    ensures others { (q : AnyValue) → eq_by_cmp value_cmp key.now q ≡ false → chain_of rows.new.entries q ≡ chain_of rows.old.entries q }
+{
+    trim_in(rows, key, upto);
+    drop_gone(rows, key, upto);
+}
+
+/// Gives up the versions of a row that only snapshots before this number need. A row of which nothing but an absence is left takes no more room.
+pub(crate) fn forget_at(tables: &mut Vec<RowMap>, table: u16, key: &Value, upto: u32)
     ensures len { length tables.new.items ≡ length tables.old.items }
-    ensures trims { (t : ℕ) (k : AnyValue) → chain_at tables.new.items t k ≡ cond (is_at_row t k table key.now) (trimmed (chain_at tables.old.items t k) upto) (chain_at tables.old.items t k) }
+    ensures here { AgreeFrom upto (chain_at tables.old.items table key.now) (chain_at tables.new.items table key.now) }
+    ensures others { (t : ℕ) (k : AnyValue) → is_at_row t k table key.now ≡ false → chain_at tables.new.items t k ≡ chain_at tables.old.items t k }
 {
     let table = table as usize;
     if table < tables.len() {
         let rows = &mut tables[table];
-        trim_in(rows, key, upto);
+        forget_in(rows, key, upto);
     }
 }

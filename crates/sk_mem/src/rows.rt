@@ -4,7 +4,7 @@ ghost use Rattle.std.specs.Prelude.{true};
 ghost use Rattle.sk_model.specs.declared.engine.EngineName.TheVariants.{Mem};
 ghost use Rattle.sk_mem.specs.Chains.{Shows};
 
-use crate::chains::{RowMap, act_at, given_at, read_at, trim_at, write_at};
+use crate::chains::{RowMap, act_at, forget_at, given_at, read_at, write_at};
 use crate::scanning::scan_at;
 use sk_engine::{Act, Rows};
 use sk_model::{EngineFault, EngineName, KeyedRows, Label};
@@ -72,6 +72,6 @@ impl Rows for MemRows {
     }
 
     fn forget(&mut self, table: u16, key: &Value, upto: u32) {
-        trim_at(&mut self.tables, table, key, upto);
+        forget_at(&mut self.tables, table, key, upto);
     }
 }
