@@ -10,7 +10,7 @@ mod text;
 mod writing;
 
 pub use pipeline::{Batch, Pipeline};
-pub use receipts::Teller;
+pub use receipts::{Answering, Teller};
 
 #[cfg(test)]
 mod tests;

@@ -21,8 +21,7 @@ pub fn covers(cut: Point, need: &Need) -> bool
     is_reached(need.mem, cut.a) && is_reached(need.store, cut.b)
 }
 
-/// A closure that answers the receipt of the label and the cut that it is called with. Every `Fn(Label, Point) -> Receipt` is one;
-/// what it answers is a fact that a `Pipeline` keeps beside it.
+/// Who answers the receipt of the label and the cut that it is called with. That it does is a fact that a `Pipeline` keeps beside it.
 pub trait Teller {
     /// It does answer that.
     ghost is_true: { Self → Type 0 };
@@ -33,11 +32,15 @@ pub trait Teller {
         ensures { result ≡ record { label = label; cut = cut } };
 }
 
-impl<F: Fn(Label, Point) -> Receipt> Teller for F {
-    ghost is_true = { λ f. F.IsAlwaysCallable f × AnswersReceipts (F.post f) };
+/// A closure that answers receipts.
+#[derive(Drop)]
+pub struct Answering<F>(pub F);
+
+impl<F: Fn(Label, Point) -> Receipt> Teller for Answering<F> {
+    ghost is_true = { λ t. F.IsAlwaysCallable t.0 × AnswersReceipts (F.post t.0) };
 
     fn receipt(&self, label: Label, cut: Point) -> Receipt {
-        self(label, cut)
+        (self.0)(label, cut)
     }
 }
 
