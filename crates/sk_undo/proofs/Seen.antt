@@ -1,10 +1,10 @@
 -- What readers see of paths as a place is claimed and filled.
-use Rattle.std.proofs.Common.{◌≡◌, ℕ, zero, suc, ◌+◌, ◌≤◌, ◌<◌, Bool, true, false, cond, leb, length, slice_set, Option, Some, None, refl, sym, ap, subst, ◌∙◌, arith}
+use Rattle.std.proofs.Common.{◌≡◌, ℕ, zero, suc, ◌+◌, ◌⊎◌, ◌≤◌, ◌<◌, Bool, true, false, cond, leb, inl, inr, length, slice_set, Option, Some, None, refl, sym, ap, subst, ◌∙◌, arith}
 use Rattle.std.proofs.lemmas.Bool.{leb-true, leb-false, le-leb}
 use Rattle.sk_rows.specs.declared.value.Value.{Value}
 use Rattle.std.specs.Prelude.{List}
 use Rattle.sk_undo.specs.declared.undo.Undo.{Undo}
-use Rattle.sk_undo.specs.Laws.{ClaimShows, FillShows}
+use Rattle.sk_undo.specs.Laws.{ClaimShows, FillRows, FillShows}
 use Rattle.sk_undo.specs.Log.{AreLinked, AreWhole, Avoids, IsClaimed, IsFree, IsOlder, IsStanding, Log, bound, bound_of, filled, is_empty, met, named, newest_for, put_at, record_at, row_in, row_of, row_seen, walk, with_newer}
 use Rattle.sk_undo.proofs.Places.{goes_on, is_met, other, past_leb, pushed_links, put_other, put_same, same_met, set_other, set_same, stands_free, still_stands}
 use Rattle.sk_undo.proofs.Frees.{put_reads}
@@ -115,5 +115,15 @@ module _ (log : Log) (at : ℕ) (u : Undo) (h : AreWhole log) (free : IsFree log
       let on : newest_for new (Some at) s ≡ newest_for log u.older s = goes_on new at s u linked here (omega arith) ∙ push_keeps log at u u.older s h.0 older free.1 fits (avoids u.older older) in
       ap (row_in new) on ∙ row_there (newest_for log u.older s) (λ p f. found_stands log u.older s p f)
 
+  rows_are : (q : ℕ) → (row_of (record_at new q) ≡ u.row) ⊎ (row_of (record_at new q) ≡ row_of (record_at log q))
+  rows_are q =
+      other q at
+      (λ e. inl (named_row mid u.older u.n q standing ∙ ap (λ (z : ℕ). row_of (record_at mid z)) e ∙ ap row_of (put_same log at (Some u) fits)))
+      (λ e. inr (named_row mid u.older u.n q standing ∙ ap row_of (put_other log at q (Some u) fits e)))
+
 pub filling : FillShows
 filling log at older n row s h free may = seen_new log at record { older = older; newer = None; n = n; row = row } h free may s (leb n s) refl
+
+-- the row of each place is the new one, or the one of before
+pub filled_rows : FillRows
+filled_rows log at older n row q h free may = rows_are log at record { older = older; newer = None; n = n; row = row } h free may q

@@ -1,7 +1,7 @@
 -- What holds of undo records as they come and go.
-use Rattle.std.specs.Prelude.{◌≡◌, ℕ, ◌≤◌, if◌then◌else◌, nat_le, List, length, map, Option, Some, None}
+use Rattle.std.specs.Prelude.{◌≡◌, ◌⊎◌, ℕ, ◌≤◌, if◌then◌else◌, nat_le, List, length, map, Option, Some, None}
 use Rattle.sk_rows.specs.declared.value.Value.{Value}
-use Rattle.sk_undo.specs.Log.{AreWhole, Avoids, IsClaimed, IsFirst, IsFree, IsOlder, Log, Stays, cut, dropped, filled, newest_for, record_at, row_seen, trimmed}
+use Rattle.sk_undo.specs.Log.{AreWhole, Avoids, IsClaimed, IsFirst, IsFree, IsOlder, Log, Stays, cut, dropped, filled, newest_for, record_at, row_of, row_seen, trimmed}
 
 -- a record that is added changes nothing of what paths from other places show
 abbrev pub PushKeeps : Type 0
@@ -36,3 +36,9 @@ abbrev pub FillShows : Type 0
 FillShows = (log : Log) (at : ℕ) (older : Option ℕ) (n : ℕ) (row : Option (List Value)) (snapshot : ℕ)
     → AreWhole log → IsFree log at → IsOlder log older n
     → row_seen (filled log at older n row) (Some at) snapshot ≡ (if nat_le n snapshot then row else row_seen log older snapshot)
+
+-- where a record is added, the row of each place is the new one or the one of before
+abbrev pub FillRows : Type 0
+FillRows = (log : Log) (at : ℕ) (older : Option ℕ) (n : ℕ) (row : Option (List Value)) (q : ℕ)
+    → AreWhole log → IsFree log at → IsOlder log older n
+    → (row_of (record_at (filled log at older n row) q) ≡ row) ⊎ (row_of (record_at (filled log at older n row) q) ≡ row_of (record_at log q))
