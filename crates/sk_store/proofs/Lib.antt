@@ -1,0 +1,12 @@
+pub mod Acts
+mod CellExamples
+pub mod Changing
+pub mod Lengths
+pub mod Lifting
+pub mod Mapping
+pub mod Moving
+pub mod Pushes
+pub mod Readings
+pub mod Scans
+pub mod Serving
+pub mod Tables
