@@ -40,7 +40,7 @@ abbrev state_or : VersionState → Option Version → VersionState
 state_or state None = state
 state_or state (Some v) = v.state
 
-none_bare : (o : Option Version) → bare o ≡ None → o ≡ None
+pub none_bare : (o : Option Version) → bare o ≡ None → o ≡ None
 none_bare None e = refl
 none_bare (Some v) e = absurd cc
 
@@ -116,7 +116,7 @@ module _ (told : Bool) (cells : Cells) (columns : List Column) (key : Value) whe
 
 -- ---- older versions are given up
 
-itself : (u : ℕ) (c : Chained) → AgreeFrom u c c
+pub itself : (u : ℕ) (c : Chained) → AgreeFrom u c c
 itself u c = record { top = refl; reads = λ s l. refl; last = λ s l. refl }
 
 -- another chain, of which readers and writers from the number on find the same, and which the head shows

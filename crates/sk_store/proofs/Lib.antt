@@ -1,6 +1,8 @@
 pub mod Acts
+pub mod Beginning
 mod CellExamples
 pub mod Changing
+pub mod InUse
 pub mod Lengths
 pub mod Lifting
 pub mod Mapping

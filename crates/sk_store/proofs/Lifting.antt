@@ -29,10 +29,10 @@ use Rattle.sk_store.proofs.Mapping.{row_is}
 pub kept_all : (told : Bool) (has then : Cells → Type 0) (heads : Heads) (tables : List Table) (chains : Chains) → ((cells : Cells) → has cells → then cells) → ShowsAll told has heads tables chains → ShowsAll told then heads tables chains
 kept_all told has then heads tables chains keeps h = record { cells = h.cells; has_cells = keeps h.cells h.has_cells; rows = h.rows; apart = h.apart }
 
-same_row : (t : ℕ) (k : Value) (u : ℕ) (key : Value) → is_at_row t k u key ≡ is_row_id t k (row_id u key)
+pub same_row : (t : ℕ) (k : Value) (u : ℕ) (key : Value) → is_at_row t k u key ≡ is_row_id t k (row_id u key)
 same_row t k u key = ap (λ b. (t == u) && b) ((eq_by_cmp_equiv value_cmp_total).symm key k)
 
-here_row : (u : ℕ) (key : Value) → is_at_row u key u key ≡ true
+pub here_row : (u : ℕ) (key : Value) → is_at_row u key u key ≡ true
 here_row u key = and_from (u == u) (eq_by_cmp value_cmp key key) (eq-eqb u u refl) (tied_itself key)
 
 -- ---- a cell that stays

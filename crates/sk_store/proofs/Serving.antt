@@ -1,5 +1,5 @@
 -- What the calls on one row leave of all that is shown.
-use Rattle.std.specs.Prelude.{◌≡◌, ◌×◌, ℕ, ◌<◌, List, Option, Some, None, Result, Ok, Err, Bool, true, false, cond, length}
+use Rattle.std.specs.Prelude.{◌≡◌, ℕ, ◌<◌, List, Option, Some, None, Result, Ok, Err, Bool, true, false, cond, length}
 use Rattle.std.proofs.Common.{refl, sym, ap, subst, ◌∙◌}
 use Rattle.std.specs.BTreeMap.{BTreeMap}
 use Rattle.std.proofs.lemmas.Bool.{cond-true, cond-false}

@@ -1,6 +1,8 @@
+pub mod Begun
 pub mod Calls
 pub mod Cells
 pub mod Heads
+pub mod Journaled
 pub mod Maps
 pub mod Reads
 pub mod Scanning

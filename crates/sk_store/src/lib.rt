@@ -2,8 +2,11 @@
 #![tactic(auto)]
 
 mod cells;
+mod engine;
+mod first;
 mod head;
 mod heads;
+mod laws;
 mod page_vec;
 mod paged;
 mod pages;
@@ -12,6 +15,8 @@ mod reading;
 mod rooms;
 mod scanning;
 
+pub use engine::StoreEngine;
+pub use laws::store_journal_is_legal;
 pub use page_vec::PageVec;
 pub use paged::PagedRows;
 pub use pages::{PageFault, Pages};

@@ -1,8 +1,10 @@
 use Rattle.std.proofs.Common.{◌≡◌, ◌++◌, ◌∷◌, [], length, map, sym, ap, subst, ◌∙◌, arith, rules}
 use Rattle.std.proofs.lemmas.Iterator.Consumers.{YieldsList-turn, YieldsList-so_far, YieldsList-end, YieldsList-from_rest}
 use Rattle.std.proofs.lemmas.List.{map-append}
-use Rattle.sk_chain.specs.Reading.{found}
+use Rattle.sk_chain.specs.Reading.{Sight, found}
 use Rattle.sk_store.specs.Scanning.{HasRead, row_listed, waits_for, with_sights}
+use Rattle.sk_rows.specs.declared.value.Value.{Value}
+use Rattle.sk_store.specs.declared.head.Head.{Head}
 use Rattle.sk_store.proofs.Scans.{more_read}
 use Rattle.sk_store.proofs.Tables.{end_scan, entry_shows, stop_scan}
 use Rattle.sk_store.proofs.scanning.scan_rows.Goals as goal
@@ -18,7 +20,7 @@ returns-in-Err-clause-scans g c = λ cells chain h s order.
     let told = g.P.Pages.told in
     let columns = c.args.table.now.columns in
     let n = length c.loop-key.yielded in
-    let d = (c.in-Some.key.now, c.in-Some.head.now) in
+    let d : Value × Head = (c.in-Some.key.now, c.in-Some.head.now) in
     let before = g.P.Pages.faults c.args.pages.now in
     let now = g.P.Pages.faults c.read_head.new.pages in
     stop_scan told before now cells columns entries chain c.args.by c.args.snapshot s order n d (g.P.Pages.faults c.loop-key.pages) c.in-Err.fault t.0 t.1
@@ -34,7 +36,7 @@ loop-key-preserved g c =
     let told = g.P.Pages.told in
     let columns = c.args.table.now.columns in
     let n = length c.loop-key.yielded in
-    let d = (c.in-Some.key.now, c.in-Some.head.now) in
+    let d : Value × Head = (c.in-Some.key.now, c.in-Some.head.now) in
     let before = g.P.Pages.faults c.args.pages.now in
     let now = g.P.Pages.faults c.read_head.new.pages in
     let added : c.add_row.new.rows ≡ c.loop-key.rows ++ row_listed c.in-Some.key.now c.in-Ok.row = search rules in
@@ -42,7 +44,7 @@ loop-key-preserved g c =
       later = omega (arith, i.later, c.read_head.ensures.later);
       keeps = λ cells h. c.read_head.ensures.keeps cells (i.keeps cells h);
       so_far = λ cells chain h s order.
-          let sight = λ q. found (chain q) c.args.by c.args.snapshot in
+          let sight : Value → Sight = λ q. found (chain q) c.args.by c.args.snapshot in
           let shown = entry_shows told before now cells columns entries chain c.args.by c.args.snapshot s order n d t.0 t.1 in
           let more = more_read told (g.P.Pages.faults c.loop-key.pages) now columns (with_sights sight (map (λ e. (e.0.now, e.1.now)) c.loop-key.yielded)) c.loop-key.rows c.in-Some.key.now (sight c.in-Some.key.now) c.in-Ok.row
               (i.so_far cells chain h s order) (c.in-Ok.ensures.reads cells (chain c.in-Some.key.now) (i.keeps cells h) shown) (c.in-Ok.ensures.fits shown.fit) in

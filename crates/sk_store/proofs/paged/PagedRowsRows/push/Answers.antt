@@ -26,6 +26,6 @@ returns-clause-pushes g c = λ tables chains h.
     let first = c.requires in
     let may = subst (λ cs. MayBe cs key c.args.row) (columns_is told has kept maps first.0 first.1.0 u first.1.1 tab there) (may_of first.0 u key c.args.row first.1.2) in
     pushed_all told has then kept maps new tables chains u key tab.columns h columns c.push_at.ensures.len c.push_at.ensures.others
-    g.P.Pages.has c.push_at.new.pages (g.P.Pages.faults c.args.self.now.pages) (g.P.Pages.faults c.push_at.new.pages) (λ (x : PagedRows g.P.row). Shows told (g.P.Pages.has x.pages) x.catalog x.heads.items) (record c.args.self.now { pages = c.push_at.new.pages; heads = c.push_at.new.heads }) (λ cells y. y) (λ d y. y)
+    g.P.Pages.has c.push_at.new.pages (g.P.Pages.faults c.args.self.now.pages) (g.P.Pages.faults c.push_at.new.pages) (λ (x : PagedRows g.row.P.Denot). Shows told (g.P.Pages.has x.pages) x.catalog x.heads.items) (record c.args.self.now { pages = c.push_at.new.pages; heads = c.push_at.new.heads }) (λ cells y. y) (λ d y. y)
     c.args.by c.args.snapshot c.args.row c.push_at.result
     (c.push_at.ensures.pushes h.all.cells (chains u key) h.all.has_cells (row_shown told has kept maps tables chains u h tab key (head_at maps u key) there refl) may)
