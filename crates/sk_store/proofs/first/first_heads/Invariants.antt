@@ -6,6 +6,6 @@ use Rattle.sk_store.proofs.first.first_heads.Given as goal
 
 abbrev pub invariant-loop-table : goal.invariant-loop-table
 invariant-loop-table l = record {
-  count : length l.maps.items ≡ l.table-index;
+  count : length l.maps.items ≡ l._table-index;
   heads : (t : ℕ) (key : Value) → head_at l.maps.items t key ≡ no_head;
 }

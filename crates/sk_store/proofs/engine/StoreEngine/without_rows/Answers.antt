@@ -7,4 +7,4 @@ pub returns : goal.returns
 returns c =
     let tables = c.args.catalog.now in
     λ js. c.new-engine.ensures tables (no_rows tables) (none_len tables) (none_sorted tables)
-    (begins c.in_ok-kept.kept tables c.in_ok-heads.heads.items c.args.start c.new-pages.result c.in_ok-kept.ensures (c.in_ok-heads.ensures.count ∙ ap length c.tables.ensures) c.in_ok-heads.ensures.heads)
+    (begins c.in_ok-kept.kept tables c.in_ok-heads.heads.items c.args.start c.new-pages.result c.in_ok-kept.ensures (c.in_ok-heads.ensures.count ∙ ap length c.tables.ensures.value) c.in_ok-heads.ensures.heads)
