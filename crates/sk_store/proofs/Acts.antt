@@ -88,7 +88,10 @@ module _ (told : Bool) (cells : Cells) (columns : List Column) (key : Value) whe
           ap bare (last_end None settled (with_state (Stamped n) v)) ∙ ap (λ b. Some (bare_version b (Stamped n))) who;
       fit = s.fit;
       holds = λ t. (
-        record { by = by; n = n }, v.row, refl, (s.holds t).0,
+        record { by = by; n = n },
+        v.row,
+        refl,
+        (s.holds t).0,
         λ z. upto_end z None None settled (with_state (Stamped n) v) ∙ ap (λ r. cond (nat_le n z) v.row r) ((s.holds t).1 z),
       );
     }

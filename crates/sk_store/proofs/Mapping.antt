@@ -13,7 +13,6 @@ use Rattle.sk_store.specs.declared.head.Head.{Head}
 use Rattle.sk_store.specs.Heads.{acted_head, no_head}
 use Rattle.sk_engine.specs.declared.act.Act.{Act}
 use Rattle.sk_engine.specs.declared.act.Act.TheVariants as act
-
 use Rattle.sk_store.specs.Maps.{head_of, head_at, is_at_row}
 
 -- a row is the one whose table and key it has

@@ -47,7 +47,7 @@ loop-key-preserved g c =
           let sight : Value → Sight = λ q. found (chain q) c.args.by c.args.snapshot in
           let shown = entry_shows told before now cells columns entries chain c.args.by c.args.snapshot s order n d t.0 t.1 in
           let more = more_read told (g.P.Pages.faults c.loop-key.pages) now columns (with_sights sight (map (λ e. (e.0.now, e.1.now)) c.loop-key.yielded)) c.loop-key.rows c.in-Some.key.now (sight c.in-Some.key.now) c.in-Ok.row
-              (i.so_far cells chain h s order) (c.in-Ok.ensures.reads cells (chain c.in-Some.key.now) (i.keeps cells h) shown) (c.in-Ok.ensures.fits shown.fit) in
+          (i.so_far cells chain h s order) (c.in-Ok.ensures.reads cells (chain c.in-Some.key.now) (i.keeps cells h) shown) (c.in-Ok.ensures.fits shown.fit) in
           let keys = ap (with_sights sight) (map-append (λ e. (e.0.now, e.1.now)) c.loop-key.yielded ((c.in-Some.key, c.in-Some.head) ∷ [])) ∙ map-append (λ e. (e.0, sight e.0)) (map (λ e. (e.0.now, e.1.now)) c.loop-key.yielded) (d ∷ []) in
           subst (λ es. HasRead told columns es c.add_row.new.rows) (sym keys)
           (subst (λ rs. HasRead told columns (with_sights sight (map (λ e. (e.0.now, e.1.now)) c.loop-key.yielded) ++ (c.in-Some.key.now, sight c.in-Some.key.now) ∷ []) rs) (sym added) more);
