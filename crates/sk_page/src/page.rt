@@ -72,7 +72,8 @@ impl Page {
         self.sizes.len()
     }
 
-    fn free(&self) -> u32
+    /// How many bytes are free: what the cells leave of the 4,088 behind the header.
+    pub fn free(&self) -> u32
         ensures value { result ≡ free self.now }
         ensures within { sum_by cost self.now ≤ 4088 }
     {
@@ -113,6 +114,7 @@ impl Page {
     pub fn insert(&mut self, cell: &[u8]) -> Result<u16, Full>
         requires { length cell.now < 4294967292 }
         ensures ok { IfOk result (λ slot. (slot ≡ first_free self.old) × (self.new ≡ put_at self.old slot (Some cell.now)) × (length cell.now + 4 ≤ free self.old)) }
+        ensures unused { IfOk result (λ slot. (slot ≤ length self.old) × (cell_at self.old slot ≡ None)) }
         ensures full { IfErr result (λ e. (e.free ≡ free self.old) × (e.need ≡ length cell.now + 4) × (e.free < e.need)) }
         ensures unchanged { OnErr result (self.new ≡ self.old) }
     {

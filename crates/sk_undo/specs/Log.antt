@@ -139,6 +139,15 @@ abbrev pub row_of : Option Undo → Option (List Value)
 row_of None = None
 row_of (Some u) = u.row
 
+-- the row of the record at this place
+abbrev pub row_in : Log → Option ℕ → Option (List Value)
+row_in log None = None
+row_in log (Some at) = row_of (record_at log at)
+
+-- the row of the version that a reader at this snapshot sees on the path from here
+abbrev pub row_seen : Log → Option ℕ → ℕ → Option (List Value)
+row_seen log from snapshot = row_in log (newest_for log from snapshot)
+
 -- ---- what goes
 
 unfoldable pub dropped_in : ℕ → Log → Option ℕ → Log

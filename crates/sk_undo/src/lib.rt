@@ -5,7 +5,7 @@ mod laws;
 mod log;
 mod undo;
 
-pub use laws::{cut_keeps, drop_keeps, push_keeps, trim_keeps};
+pub use laws::{claim_shows, cut_keeps, drop_keeps, fill_rows, fill_shows, push_keeps, trim_keeps};
 pub use log::UndoLog;
 pub use undo::Undo;
 

@@ -5,11 +5,11 @@
 //! knows the number of the record that names it, and no two records name one place. So a path goes down in numbers and ends,
 //! and unlike paths have no record in common.
 
-ghost use Rattle.std.specs.Prelude.{◌≡◌, ◌≤◌, [], length, map, None, Some, IfOk, OnErr, IsSome};
+ghost use Rattle.std.specs.Prelude.{◌≡◌, ◌≤◌, [], length, map, None, Some, IfOk, OnErr, IsSome, IsTrue, ◌↔◌};
 ghost use Rattle.std.specs.Option.{option_copied};
-ghost use Rattle.sk_undo.specs.Log.{IsClaimed, IsFirst, IsFree, IsOlder, IsPushed, cut, dropped, filled, newest_for, record_at, row_of, trimmed};
+ghost use Rattle.sk_undo.specs.Log.{AreWhole, IsClaimed, IsFirst, IsFree, IsOlder, IsPushed, cut, dropped, filled, newest_for, record_at, row_of, row_seen, trimmed};
 
-use crate::undo::{Undo, claim, cut, drop_path, forget, name, newest, trim};
+use crate::undo::{Undo, claim, cut, drop_path, forget, may_name, name, newest, record, trim};
 use sk_rows::{NoMemory, Row};
 use std::alloc::Global;
 use std::marker::Model;
@@ -64,6 +64,15 @@ impl UndoLog {
         claim(&mut self.slots, &mut self.free)
     }
 
+    /// Whether a record of this number may name the older one: it stands, has a smaller number and is named by no record. That is
+    /// what `fill` and `push` ask for.
+    pub fn may_name(&self, older: Option<u32>, n: u32) -> bool
+        ensures may { IsTrue result ↔ IsOlder self.now older n }
+        ensures whole { AreWhole self.now }
+    {
+        may_name(self.slots.as_slice(), older, n)
+    }
+
     /// Puts a record into a free place. `older`, where it is given, has a smaller number and is named by no record. Takes no
     /// memory.
     pub fn fill(&mut self, at: u32, older: Option<u32>, n: u32, row: Option<Row>)
@@ -114,6 +123,19 @@ impl UndoLog {
         ensures { self.new ≡ dropped self.old from }
     {
         drop_path(&mut self.slots, &mut self.free, from);
+    }
+
+    /// The row of the version that a reader at this snapshot sees on the path from here. None where it sees none, or an absence.
+    pub fn row_for(&self, from: Option<u32>, snapshot: u32) -> Option<&Row>
+        ensures { option_copied result ≡ row_seen self.now from snapshot }
+    {
+        match record(
+            self.slots.as_slice(),
+            newest(self.slots.as_slice(), from, snapshot)?,
+        ) {
+            Some(undo) => undo.row.as_ref(),
+            None => None,
+        }
     }
 
     /// The place of the first record on the path from here whose number is at most `snapshot`: the version that a reader at this

@@ -1,8 +1,8 @@
 //! One undo record, and lists of them by place.
 
-ghost use Rattle.std.specs.Prelude.{◌≡◌, ◌<◌, ◌≤◌, length, take, drop, map, ◌++◌, get_or, slice_set, None, Some, OnOk, OnErr, IfOk, IfSome};
+ghost use Rattle.std.specs.Prelude.{◌≡◌, ◌<◌, ◌≤◌, length, take, drop, map, ◌++◌, get_or, slice_get, slice_set, ◌-◌, None, Some, OnOk, OnErr, IfOk, IfSome, IsTrue, ◌↔◌};
 ghost use Rattle.std.specs.Option.{option_copied};
-ghost use Rattle.sk_undo.specs.Log.{AreLinked, AreWhole, IsClaimed, IsFree, IsStanding, IsUnnamed, bound, cut, dropped, is_dead, is_empty, is_free, named, newest_for, older_of, put_at, record_at, trimmed, unlinked, with_newer, without_older};
+ghost use Rattle.sk_undo.specs.Log.{AreLinked, AreWhole, IsClaimed, IsFree, IsOlder, IsStanding, IsUnnamed, MayBeNamed, bound, cut, dropped, is_dead, is_empty, is_free, named, newest_for, older_of, put_at, record_at, trimmed, unlinked, with_newer, without_older};
 
 use sk_rows::{NoMemory, Row};
 
@@ -58,10 +58,13 @@ fn note(free: &mut Vec<u32>, at: u32) {
 }
 
 /// Takes a place that is in use now from the list, if it stands there last, as after a claim.
-pub fn forget(free: &mut Vec<u32>, at: u32) {
-    if let Some(last) = free.pop() {
-        if last != at {
-            note(free, last);
+pub fn forget(free: &mut Vec<u32>, at: u32)
+    ensures goes { slice_get free.old.items (length free.old.items - 1) ≡ Some at → free.new.items ≡ take (length free.old.items - 1) free.old.items }
+    ensures stays { (slice_get free.old.items (length free.old.items - 1) ≡ Some at → ⊥) → free.new.items ≡ free.old.items }
+{
+    if let Some(last) = free.last() {
+        if *last == at {
+            free.pop();
         }
     }
 }
@@ -89,6 +92,27 @@ fn name_one(slot: &mut Option<Undo>, n: u32)
 {
     if let Some(undo) = slot {
         undo.newer = Some(n);
+    }
+}
+
+/// Whether a record stands here, has a smaller number, and no record names it.
+fn may_be_named(slot: &Option<Undo>, n: u32) -> bool
+    ensures { IsTrue result ↔ MayBeNamed slot.now n }
+{
+    match slot {
+        None => false,
+        Some(undo) => undo.n < n && undo.newer.is_none(),
+    }
+}
+
+/// Whether a record of this number may name the older one.
+#[tactic(auto, using(crate::proofs::Frees::past_end))]
+pub fn may_name(slots: &[Option<Undo>], older: Option<u32>, n: u32) -> bool
+    ensures { IsTrue result ↔ IsOlder slots.now older n }
+{
+    match older {
+        None => true,
+        Some(at) => (at as usize) < slots.len() && may_be_named(&slots[at as usize], n),
     }
 }
 

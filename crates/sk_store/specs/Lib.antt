@@ -1,0 +1,10 @@
+pub mod Begun
+pub mod Calls
+pub mod Cells
+pub mod Heads
+pub mod Journaled
+pub mod Maps
+pub mod Reads
+pub mod Scanning
+pub mod Shown
+pub mod Writes
