@@ -47,7 +47,7 @@ pub(crate) fn table_named<'a>(
 }
 
 /// What a statement comes to over a table, whose number is `number`.
-#[tactic(auto, using(sk_expr::proofs::Concerned::concerned))]
+#[tactic(auto, using(sk_expr::proofs::Concerning::concerned))]
 pub(crate) fn answer(
     alloc: Global,
     table: &Table,
