@@ -1,39 +1,32 @@
 -- A transaction that commits: what a step adds, and how its record has just the calls that it made.
-use Rattle.std.specs.Prelude.{◌≡◌, ℕ, ◌<◌, List, [], ◌∷◌, ◌++◌, Option, Some, None, Bool, true, false, cond, not, ◌&&◌, ◌||◌, ◌⊎◌, if◌then◌else◌, IfSome, is_some}
+use Rattle.std.specs.Prelude.{◌≡◌, ℕ, ◌<◌, List, [], ◌∷◌, ◌++◌, Option, Some, None, Bool, true, false, cond, ◌||◌, ◌⊎◌, IfSome, is_some}
 use Rattle.std.proofs.Common.{refl, sym, ap, subst, ◌∙◌, inl, inr, append-nil, append_assoc}
 use Rattle.std.specs.List.{list_any, AllByRecursion}
 use Rattle.sk_rows.specs.declared.table.Table.{Table}
 use Rattle.sk_rows.specs.declared.statement.Statement.{Statement}
 use Rattle.sk_rows.specs.declared.statement.Statement.TheVariants as statement
-use Rattle.sk_model.specs.declared.label.Label.{Label}
-use Rattle.sk_model.specs.declared.engine.EngineName.{EngineName}
 use Rattle.sk_model.specs.declared.engine.EngineName.TheVariants.{Mem, Store}
-use Rattle.sk_model.specs.declared.point.Point.{Point}
 use Rattle.sk_model.specs.declared.reply.Reply.{Reply}
 use Rattle.sk_model.specs.declared.reply.Reply.TheVariants as reply
 use Rattle.sk_model.specs.declared.reply.ErrWord.TheVariants as err
 use Rattle.sk_model.specs.declared.record.Said.{Said}
 use Rattle.sk_model.specs.declared.record.Record.{Record}
-use Rattle.sk_model.specs.declared.record.Ending.{Ending}
-use Rattle.sk_model.specs.declared.record.Ending.TheVariants as ending
 use Rattle.sk_model.specs.declared.step.StepName.{StepName}
 use Rattle.sk_model.specs.declared.step.StepName.TheVariants.{CloseMem, CloseStore, DrawMem, DrawStore, Check, StampMem, StampStore}
 use Rattle.sk_model.specs.Replies.{is_judged}
-use Rattle.sk_model.specs.Records.{is_committed}
 use Rattle.sk_model.specs.Spoken.{is_lost}
-use Rattle.sk_model.specs.Talks.{Talk, opened, wrote}
-use Rattle.sk_model.specs.Asking.{Asked}
-use Rattle.sk_model.specs.RecordTalks.{Converses, is_last, is_end, Numbered, number_or_none, commit_steps, steps_calls, left_by, owes, leaves_of, is_check, is_draw_mem, is_draw_store, EndsAt, EndReplyTo, EndReply, CommitReply, lost_ending, commit_made, refuses_commit, Outdone, Talks}
+use Rattle.sk_model.specs.Talks.{Talk, wrote}
+use Rattle.sk_model.specs.RecordTalks.{Converses, is_last, is_end, number_or_none, commit_steps, steps_calls, left_by, owes, leaves_of, is_check, EndsAt, EndReplyTo, EndReply, CommitReply, lost_ending, Outdone, Talks}
 use Rattle.sk_commit.specs.declared.committing.Used.{Used}
 use Rattle.sk_commit.specs.declared.committing.CommitEnd.{CommitEnd}
 use Rattle.sk_commit.specs.declared.committing.CommitEnd.TheVariants.{Committed, CheckFailed, Spent, NoMemory}
 use Rattle.sk_commit.specs.declared.committing.Committing.{Committing}
 use Rattle.sk_commit.specs.Committing.{owes_mem, owes_store}
-use Rattle.sk_commit.specs.Told.{same_step, steps_before, steps_from, steps_of, taken_until, not_taken, numbered, taken_steps, refused_at, talk_of, talk_at_end, has_refused, refuses, EndHas, HasEnded}
+use Rattle.sk_commit.specs.Told.{same_step, steps_before, steps_from, steps_of, taken_until, not_taken, numbered, refused_at, talk_of, talk_at_end, has_refused, refuses, EndHas, HasEnded}
 use Rattle.sk_session.specs.Kept.{listed, said_maybe}
 use Rattle.sk_session.specs.declared.live.Live.{Live}
 use Rattle.sk_session.specs.Moving.{said_now, passed_at, record_of, used_of, end_ending, end_reply}
-use Rattle.sk_session.specs.Speaks.{HeardIs, Commits}
+use Rattle.sk_session.specs.Speaks.{Commits}
 use Rattle.sk_session.proofs.Talking.{spoken_push}
 
 -- ---- the steps

@@ -1,5 +1,5 @@
 -- An answer to a call of a statement: what the session then asks for, or answers, is what the statement asks for behind that call.
-use Rattle.std.specs.Prelude.{◌≡◌, ℕ, ◌+◌, List, [], ◌∷◌, ◌++◌, Option, Some, None, Bool, true, false, cond, ◌⊎◌, drop, is_some, slice_get}
+use Rattle.std.specs.Prelude.{◌≡◌, ℕ, ◌+◌, List, [], ◌∷◌, ◌++◌, Option, Some, None, Bool, true, false, cond, drop, is_some, slice_get}
 use Rattle.std.proofs.Common.{refl, sym, ap, subst, ◌∙◌, inl, inr, append-nil}
 use Rattle.sk_rows.specs.declared.table.Table.{Table}
 use Rattle.sk_rows.specs.declared.value.Value.{Value}
@@ -9,10 +9,8 @@ use Rattle.sk_model.specs.declared.label.Label.{Label}
 use Rattle.sk_model.specs.declared.engine.EngineName.{EngineName}
 use Rattle.sk_model.specs.declared.engine.EngineName.TheVariants.{Mem, Store}
 use Rattle.sk_model.specs.declared.commit.Write.{Write}
-use Rattle.sk_model.specs.declared.point.Point.{Point}
 use Rattle.sk_model.specs.declared.point.Recycled.{Recycled}
 use Rattle.sk_model.specs.declared.record.Record.{Record}
-use Rattle.sk_model.specs.declared.record.TxKind.{TxKind}
 use Rattle.sk_model.specs.declared.record.Ending.TheVariants as ending
 use Rattle.sk_model.specs.declared.reply.Reply.{Reply}
 use Rattle.sk_model.specs.declared.reply.Reply.TheVariants as reply
@@ -33,20 +31,19 @@ use Rattle.sk_model.specs.Asking.{keeper, first_engine, table_named, fault_reply
 use Rattle.sk_model.specs.RecordTalks.{number_or_none}
 use Rattle.sk_weave.specs.declared.answer.Selected.{Selected}
 use Rattle.sk_commit.specs.declared.asking.RegistryReply.TheVariants as told
-use Rattle.sk_commit.specs.declared.asking.RegistryReply.{RegistryReply}
 use Rattle.sk_commit.specs.declared.asking.Wish.TheVariants as wish
 use Rattle.sk_commit.specs.declared.asking.RegistryCall.TheVariants as reg
 use Rattle.sk_commit.specs.declared.asking.Got.{Got}
 use Rattle.sk_commit.specs.declared.asking.Got.TheVariants as given
-use Rattle.sk_commit.specs.Fits.{made_call, own_call, IsLoss, CallFits, RegFits, WishFits}
+use Rattle.sk_commit.specs.Fits.{made_call, own_call, IsLoss, CallFits, WishFits}
 use Rattle.sk_session.specs.declared.live.Live.{Live}
 use Rattle.sk_session.specs.declared.live.Job.{Job}
 use Rattle.sk_session.specs.declared.live.Job.TheVariants as job
 use Rattle.sk_session.specs.declared.live.Moved.{Moved}
-use Rattle.sk_session.specs.Moving.{snapshot_of, on, counter_wish, put_wish, wished, Either, is_begin, opened_at, has_written, selects, noted_open, noted_select, noted_put, say, starve, lose_by, lose_recycled, ask_open, ask_read, read_in, read_now, read_by, read_for, behind_open, count_goes, open_goes, select_goes, fault_at_read, answer_in, answer_now, answer_by, answers, rows_come, read_goes, put_goes, put_next, GoesAs}
+use Rattle.sk_session.specs.Moving.{snapshot_of, on, counter_wish, put_wish, wished, Either, is_begin, opened_at, has_written, selects, noted_open, noted_select, noted_put, starve, lose_by, ask_open, ask_read, read_in, read_now, read_by, read_for, behind_open, count_goes, open_goes, select_goes, fault_at_read, answer_in, answer_now, answer_by, rows_come, read_goes, put_goes, GoesAs}
 use Rattle.sk_session.specs.Speaks.{ReadsOf, Behind, Knows, IsOpen, Answering, Uses, Waits, Keeps}
 use Rattle.sk_session.proofs.Judged.{answer_kept}
-use Rattle.sk_session.proofs.Waiting.{IsFoundBy, found_then, next_write, Alike, same, alike_written, alike_opened, opened_now, open_still, still_open, knows_more, knows_read, knows_put, knows_open, goes_further, goes_on_so, selected, has_anchor}
+use Rattle.sk_session.proofs.Waiting.{IsFoundBy, found_then, next_write, Alike, same, alike_written, alike_opened, opened_now, open_still, still_open, knows_more, knows_read, knows_put, knows_open, goes_further, goes_on_so, selected}
 use Rattle.sk_session.proofs.Saying.{starve_keeps, lost_keeps, fault_keeps, say_or_starve, puts_keep}
 
 pub either_keeps : (P : Moved → Type 0) (x y moved : Moved) → Either x y moved → P x → P y → P moved

@@ -1,6 +1,6 @@
 -- An answer to a call of a commit, or to the end of an opening, adds just that call; behind the last one the record has all of them.
-use Rattle.std.specs.Prelude.{◌≡◌, ℕ, List, [], ◌∷◌, ◌++◌, Option, Some, None, Bool, true, false, cond, ◌||◌, if◌then◌else◌, is_some}
-use Rattle.std.proofs.Common.{refl, sym, ap, subst, ◌∙◌, append-nil, append_assoc}
+use Rattle.std.specs.Prelude.{◌≡◌, ℕ, List, [], ◌∷◌, ◌++◌, Option, Some, None, Bool, true, false, if◌then◌else◌, is_some}
+use Rattle.std.proofs.Common.{refl, sym, ap, subst, ◌∙◌, append_assoc}
 use Rattle.std.specs.List.{list_any}
 use Rattle.sk_rows.specs.declared.table.Table.{Table}
 use Rattle.sk_model.specs.declared.engine.EngineName.{EngineName}
@@ -25,9 +25,7 @@ use Rattle.sk_commit.specs.Fits.{WishFits, own_call}
 use Rattle.sk_commit.specs.Told.{talk_of, taken_steps, GoesOn, Keeps as CommitKeeps}
 use Rattle.sk_commit.proofs.Taking.{take_keeps}
 use Rattle.sk_session.specs.declared.live.Live.{Live}
-use Rattle.sk_session.specs.declared.live.Job.{Job}
-use Rattle.sk_session.specs.declared.live.Job.TheVariants as job
-use Rattle.sk_session.specs.Moving.{record_of, finish, drops, opened_store, next_opened, on, stepped, went_on, commit_goes, end_ending, end_reply}
+use Rattle.sk_session.specs.Moving.{record_of, finish, drops, next_opened, on, stepped, went_on, commit_goes, end_ending, end_reply}
 use Rattle.sk_session.specs.Speaks.{HeardIs, Commits, Leaves, Keeps}
 use Rattle.sk_session.proofs.Leaving.{left_mem, left_mem_last, left_store}
 use Rattle.sk_session.proofs.Committed.{declared_talks, small_talks}

@@ -1,16 +1,12 @@
 -- A transaction that is given up: its openings are ended one after another, and its record has just the calls that it made.
-use Rattle.std.specs.Prelude.{◌≡◌, ℕ, ◌<◌, List, [], ◌∷◌, ◌++◌, Option, Some, None, Bool, true, false, cond, not, ◌&&◌, ◌||◌, ◌⊎◌, IfSome, is_some}
-use Rattle.std.proofs.Common.{refl, sym, ap, subst, ◌∙◌, inl, inr, append-nil, append_assoc}
+use Rattle.std.specs.Prelude.{◌≡◌, ℕ, List, [], ◌∷◌, ◌++◌, Option, Some, None, Bool, true, false, ◌||◌, IfSome, is_some}
+use Rattle.std.proofs.Common.{refl, sym, ap, subst, ◌∙◌, inl, append-nil, append_assoc}
 use Rattle.std.specs.List.{AllByRecursion}
 use Rattle.sk_rows.specs.declared.table.Table.{Table}
 use Rattle.sk_rows.specs.declared.statement.Statement.{Statement}
 use Rattle.sk_rows.specs.declared.statement.Statement.TheVariants as statement
-use Rattle.sk_model.specs.declared.engine.EngineName.{EngineName}
 use Rattle.sk_model.specs.declared.engine.EngineName.TheVariants.{Mem, Store}
-use Rattle.sk_model.specs.declared.point.Point.{Point}
 use Rattle.sk_model.specs.declared.reply.Reply.{Reply}
-use Rattle.sk_model.specs.declared.reply.Reply.TheVariants as reply
-use Rattle.sk_model.specs.declared.reply.ErrWord.TheVariants as err
 use Rattle.sk_model.specs.declared.record.Said.{Said}
 use Rattle.sk_model.specs.declared.record.Record.{Record}
 use Rattle.sk_model.specs.declared.record.Ending.{Ending}
@@ -21,11 +17,11 @@ use Rattle.sk_model.specs.declared.call.EngineReply.TheVariants as answer
 use Rattle.sk_model.specs.Spoken.{is_lost}
 use Rattle.sk_model.specs.Talks.{Talk, own, wrote}
 use Rattle.sk_model.specs.Asking.{Rest, Asked}
-use Rattle.sk_model.specs.RecordTalks.{Converses, is_last, is_end, commit_steps, Numbered, steps_calls, left_by, owes, leaves_of, EndsAt, EndReplyTo, EndReply, lost_ending, Talks}
+use Rattle.sk_model.specs.RecordTalks.{Converses, is_last, is_end, commit_steps, Numbered, left_by, owes, leaves_of, EndsAt, EndReplyTo, EndReply, lost_ending, Talks}
 use Rattle.sk_session.specs.Kept.{listed, said_maybe}
 use Rattle.sk_session.specs.declared.live.Live.{Live}
 use Rattle.sk_session.specs.Moving.{said_now, passed_at, record_of}
-use Rattle.sk_session.specs.Speaks.{Knows, Answering, LastFits, is_given_up, GivenUp, left_before, Leaves}
+use Rattle.sk_session.specs.Speaks.{Answering, LastFits, is_given_up, GivenUp, Leaves}
 use Rattle.sk_session.proofs.Talking.{spoken_push}
 
 -- ---- what the record says

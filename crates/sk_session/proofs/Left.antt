@@ -1,6 +1,6 @@
 -- A statement, STEP, and leaving a session keep the calls of its transaction.
-use Rattle.std.specs.Prelude.{◌≡◌, ℕ, List, [], Option, Some, None, Bool, true, false, not, ◌⊎◌, Result, Ok, Err}
-use Rattle.std.proofs.Common.{refl, sym, ap, subst, ◌∙◌, inl, inr}
+use Rattle.std.specs.Prelude.{◌≡◌, ℕ, List, Option, Some, None, true, false, not, Result, Ok, Err}
+use Rattle.std.proofs.Common.{refl, sym, ap, subst, inl, inr}
 use Rattle.sk_rows.specs.declared.table.Table.{Table}
 use Rattle.sk_rows.specs.declared.statement.Statement.{Statement}
 use Rattle.sk_rows.specs.declared.statement.Statement.TheVariants as statement
@@ -21,7 +21,7 @@ use Rattle.sk_session.specs.declared.live.At.{At}
 use Rattle.sk_session.specs.declared.live.At.TheVariants as at
 use Rattle.sk_session.specs.declared.live.Moved.{Moved}
 use Rattle.sk_session.specs.declared.session.Session.{Session}
-use Rattle.sk_session.specs.Moving.{says, commits, give_up, starve, lose, Either, is_begin, begins, label_after, engine_kind, judged_outside, InsideTable, StartsInside, OutsideTable, StartsOutside, start_stepping, start_ended, refuses, StartsAt, leave_at}
+use Rattle.sk_session.specs.Moving.{says, commits, starve, Either, is_begin, begins, label_after, engine_kind, judged_outside, InsideTable, StartsInside, OutsideTable, StartsOutside, start_stepping, start_ended, refuses, StartsAt, leave_at}
 use Rattle.sk_session.specs.Speaks.{Stands, Commits, Keeps, BegunAt, StartKept, LeaveKept}
 use Rattle.sk_session.specs.Starting.{Starts, Leaves, moved_to}
 use Rattle.sk_session.proofs.Standing.{commit_keeps, left_behind, rolled_back, give_up_keeps}

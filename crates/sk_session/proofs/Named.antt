@@ -1,7 +1,7 @@
 -- The table that a statement names is one of the catalog.
 use Rattle.std.specs.Prelude.{◌≡◌, ℕ, ◌<◌, zero, suc, List, [], ◌∷◌, Option, Some, None, false, length, map, get_or, option_and_then, position, slice_get}
 use Rattle.std.specs.Str.{bytes_eq}
-use Rattle.std.proofs.Common.{refl, sym, ap, arith, ◌∙◌}
+use Rattle.std.proofs.Common.{sym, ap, arith}
 use Rattle.std.proofs.lemmas.List.Quantifiers.{position-Some}
 use Rattle.sk_rows.specs.declared.table.Table.{Table}
 use Rattle.sk_rows.specs.declared.statement.Statement.{Statement}

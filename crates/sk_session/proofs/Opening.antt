@@ -1,5 +1,5 @@
 -- A statement inside a transaction, and one with which a transaction begins: what is asked for first is what the statement asks for.
-use Rattle.std.specs.Prelude.{◌≡◌, ℕ, List, [], ◌∷◌, ◌++◌, Option, Some, None, Bool, true, false, cond, ◌⊎◌, if◌then◌else◌, is_some, Result, Ok, Err}
+use Rattle.std.specs.Prelude.{◌≡◌, ℕ, List, [], ◌∷◌, Option, Some, None, Bool, true, false, cond, if◌then◌else◌, is_some, Ok, Err}
 use Rattle.std.proofs.Common.{refl, sym, ap, subst, ◌∙◌, inl, inr, append-nil}
 use Rattle.sk_rows.specs.declared.table.Table.{Table}
 use Rattle.sk_rows.specs.declared.statement.Statement.{Statement}
@@ -24,7 +24,7 @@ use Rattle.sk_model.specs.Asking.{keeper, may_use, first_engine, table_named, Re
 use Rattle.sk_model.specs.RecordTalks.{is_end}
 use Rattle.sk_session.specs.declared.live.Live.{Live}
 use Rattle.sk_session.specs.declared.live.Moved.{Moved}
-use Rattle.sk_session.specs.Moving.{snapshot_of, Either, is_begin, begun, begins, engine_kind, judged_in, judged_at, judged_outside_in, judged_outside_at, judged_outside, inside_by, inside, open_or_read, ask_select, read_for, say, starve, says}
+use Rattle.sk_session.specs.Moving.{snapshot_of, Either, is_begin, begun, begins, engine_kind, judged_in, judged_at, judged_outside_in, judged_outside_at, judged_outside, inside_by, inside, open_or_read, ask_select, say, starve, says}
 use Rattle.sk_session.specs.Speaks.{ReadsOf, Behind, Knows, IsOpen, Stands, Answering, Uses, BegunAt, Keeps}
 use Rattle.sk_session.proofs.Judged.{word_kept}
 use Rattle.sk_session.proofs.Waiting.{goes_on_so}

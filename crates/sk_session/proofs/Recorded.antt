@@ -1,5 +1,5 @@
 -- The talks of all records of a session, one each: what keeps the talk of its live transaction keeps them.
-use Rattle.std.specs.Prelude.{◌≡◌, ℕ, ◌+◌, ◌-◌, ◌<◌, List, [], ◌∷◌, ◌++◌, Option, Some, None, Bool, true, false, cond, length, if◌then◌else◌, slice_set, nat_lt}
+use Rattle.std.specs.Prelude.{◌≡◌, ℕ, ◌+◌, List, [], ◌∷◌, ◌++◌, Option, Bool, true, false, length, if◌then◌else◌, slice_set, nat_lt}
 use Rattle.std.proofs.Common.{refl, sym, ap, subst, ◌∙◌, append-nil, length-append, arith}
 use Rattle.std.proofs.lemmas.Bool.{lt-ltb}
 use Rattle.std.proofs.Math.Seq.{set-append_seam}
@@ -11,17 +11,16 @@ use Rattle.sk_model.specs.Talks.{Talk}
 use Rattle.sk_model.specs.RecordTalks.{Talks}
 use Rattle.sk_commit.specs.declared.asking.Got.{Got}
 use Rattle.sk_session.specs.declared.turn.Turn.{Turn}
-use Rattle.sk_session.specs.declared.live.Live.{Live}
 use Rattle.sk_session.specs.declared.live.At.{At}
 use Rattle.sk_session.specs.declared.live.At.TheVariants as at
 use Rattle.sk_session.specs.declared.live.Moved.{Moved}
 use Rattle.sk_session.specs.declared.session.Session.{Session}
 use Rattle.sk_session.specs.Moving.{with_last, place_of, label_after}
-use Rattle.sk_session.specs.Speaks.{SpeaksAt, Keeps, BegunAt, Unmoved, TakeKept, StartKept, LeaveKept}
+use Rattle.sk_session.specs.Speaks.{SpeaksAt, BegunAt, Unmoved, TakeKept, StartKept, LeaveKept}
 use Rattle.sk_session.specs.Starting.{Starts, Takes, Leaves, moved_to}
 use Rattle.sk_session.proofs.Taken.{takes_keep}
 use Rattle.sk_session.proofs.Left.{starts_keep, leave_keeps}
-use Rattle.sk_session.specs.EachTalk.{label_at, EachTalks, LastLive, HasTalks, grown, AnswerFits, call_made, talks_from, SessionTalks, StartTalks, TakeTalks, LeaveTalks}
+use Rattle.sk_session.specs.EachTalk.{label_at, EachTalks, LastLive, HasTalks, grown, AnswerFits, call_made, talks_from, StartTalks, TakeTalks, LeaveTalks}
 
 if_true : {X : Type 0} (b : Bool) (x y : X) → b ≡ true → (if b then x else y) ≡ x
 if_true true x y e = refl

@@ -1,6 +1,6 @@
 -- What the table of refusals refuses is refused so.
-use Rattle.std.specs.Prelude.{◌≡◌, ℕ, List, [], Option, Some, None, Bool, true, false, ◌⊎◌, if◌then◌else◌, Result, Ok, Err}
-use Rattle.std.proofs.Common.{refl, sym, ap, subst, ◌∙◌, inl, inr}
+use Rattle.std.specs.Prelude.{◌≡◌, ℕ, List, Option, Some, None, Bool, true, false, if◌then◌else◌, Ok, Err}
+use Rattle.std.proofs.Common.{ap, subst, ◌∙◌, inl, inr}
 use Rattle.sk_rows.specs.declared.table.Table.{Table}
 use Rattle.sk_rows.specs.declared.statement.Statement.{Statement}
 use Rattle.sk_rows.specs.declared.statement.Statement.TheVariants as statement
@@ -9,7 +9,6 @@ use Rattle.sk_model.specs.declared.record.Record.{Record}
 use Rattle.sk_model.specs.declared.record.TxKind.{TxKind}
 use Rattle.sk_model.specs.declared.reply.ErrWord.{ErrWord}
 use Rattle.sk_model.specs.declared.reply.ErrWord.TheVariants as err
-use Rattle.sk_model.specs.declared.reply.Reply.TheVariants as reply
 use Rattle.sk_model.specs.Names.{columns_at}
 use Rattle.sk_model.specs.Replies.{refusal_in}
 use Rattle.sk_model.specs.Asking.{keeper, may_use, table_named}
@@ -20,8 +19,8 @@ use Rattle.sk_session.specs.declared.live.At.{At}
 use Rattle.sk_session.specs.declared.live.At.TheVariants as at
 use Rattle.sk_session.specs.declared.live.Moved.{Moved}
 use Rattle.sk_session.specs.declared.session.Session.{Session}
-use Rattle.sk_session.specs.Moving.{Either, says, say, starve, refuses, judged_at, judged_in, judged_outside_at, judged_outside_in, judged_outside, inside_by, inside, InsideTable, StartsInside, OutsideTable, StartsOutside, StartsAt, start_stepping, start_ended}
-use Rattle.sk_session.specs.Refusals.{engine_refusal, words_then, table_refusal, outside_refusal, inside_refusal, stepping_refusal, ended_refusal, refusal_at, RefusedInside, RefusedIn, RefusedAt, RefusesByTable}
+use Rattle.sk_session.specs.Moving.{Either, says, starve, refuses, judged_at, judged_in, judged_outside_at, judged_outside_in, judged_outside, inside_by, InsideTable, StartsInside, OutsideTable, StartsOutside, StartsAt, start_stepping, start_ended}
+use Rattle.sk_session.specs.Refusals.{words_then, table_refusal, outside_refusal, inside_refusal, stepping_refusal, ended_refusal, RefusedInside, RefusedIn, RefusesByTable}
 use Rattle.sk_session.specs.Starting.{Starts, moved_to}
 
 -- ---- inside

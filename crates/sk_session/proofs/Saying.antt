@@ -1,5 +1,5 @@
 -- A statement is answered, or its transaction is lost by it, or it goes on to its next write.
-use Rattle.std.specs.Prelude.{◌≡◌, ℕ, zero, suc, is_some, List, [], ◌∷◌, ◌++◌, Option, Some, None, Bool, true, false, cond, not, ◌||◌, ◌⊎◌, drop, slice_get}
+use Rattle.std.specs.Prelude.{◌≡◌, ℕ, zero, suc, is_some, List, [], ◌∷◌, ◌++◌, Option, Some, None, Bool, true, false, cond, not, ◌||◌, drop, slice_get}
 use Rattle.std.proofs.Common.{refl, sym, ap, subst, ◌∙◌, inl, inr, append-nil}
 use Rattle.std.proofs.Math.Seq.{drop-nil}
 use Rattle.std.specs.List.{AllByRecursion}
@@ -21,7 +21,7 @@ use Rattle.sk_model.specs.declared.call.EngineFault.TheVariants as fault
 use Rattle.sk_model.specs.Spoken.{is_lost}
 use Rattle.sk_model.specs.Talks.{Talk}
 use Rattle.sk_model.specs.Asking.{Rest, first_engine, fault_reply, Puts}
-use Rattle.sk_model.specs.RecordTalks.{Converses, is_last, is_end, lost_ending}
+use Rattle.sk_model.specs.RecordTalks.{Converses, is_last, lost_ending}
 use Rattle.sk_commit.specs.Committing.{started}
 use Rattle.sk_commit.specs.Told.{CanStart}
 use Rattle.sk_commit.specs.Fits.{IsLoss}
@@ -30,7 +30,7 @@ use Rattle.sk_session.specs.Kept.{said_maybe}
 use Rattle.sk_session.specs.declared.turn.Turn.TheVariants as turn
 use Rattle.sk_session.specs.declared.live.Live.{Live}
 use Rattle.sk_session.specs.declared.live.Moved.{Moved}
-use Rattle.sk_session.specs.Moving.{put_wish, said_now, used_of, heard, goes_well, closes, hears, say, lose, starve, lose_by, fault_ending, put_at, put_next, is_begin, Either}
+use Rattle.sk_session.specs.Moving.{put_wish, said_now, used_of, heard, goes_well, closes, hears, say, lose, starve, lose_by, put_at, put_next, is_begin, Either}
 use Rattle.sk_session.specs.Speaks.{IsOpen, Answering, Stands, Commits, is_given_up, GivenUp, Keeps}
 use Rattle.sk_session.proofs.Talking.{going_push}
 use Rattle.sk_session.proofs.Leaving.{heard_all, gives_up}

@@ -1,6 +1,6 @@
 -- A transaction between two statements: it begins to commit, or is given up.
-use Rattle.std.specs.Prelude.{◌≡◌, ℕ, List, [], ◌∷◌, ◌++◌, Option, Some, None, Bool, true, false, ◌||◌, ◌⊎◌, if◌then◌else◌, is_some}
-use Rattle.std.proofs.Common.{refl, sym, ap, subst, ◌∙◌, inl, inr, append-nil}
+use Rattle.std.specs.Prelude.{◌≡◌, List, [], ◌∷◌, ◌++◌, Option, Some, None, Bool, true, false, ◌||◌, ◌⊎◌, if◌then◌else◌, is_some}
+use Rattle.std.proofs.Common.{refl, sym, ap, subst, ◌∙◌, append-nil}
 use Rattle.std.specs.List.{list_any}
 use Rattle.sk_rows.specs.declared.table.Table.{Table}
 use Rattle.sk_rows.specs.declared.statement.Statement.{Statement}
@@ -10,7 +10,6 @@ use Rattle.sk_model.specs.declared.engine.EngineName.{EngineName}
 use Rattle.sk_model.specs.declared.engine.EngineName.TheVariants.{Mem, Store}
 use Rattle.sk_model.specs.declared.reply.Reply.{Reply}
 use Rattle.sk_model.specs.declared.reply.Reply.TheVariants as reply
-use Rattle.sk_model.specs.declared.record.Said.{Said}
 use Rattle.sk_model.specs.declared.record.Record.{Record}
 use Rattle.sk_model.specs.declared.record.Ending.{Ending}
 use Rattle.sk_model.specs.declared.record.Ending.TheVariants as ending
@@ -18,9 +17,8 @@ use Rattle.sk_model.specs.Talks.{Talk}
 use Rattle.sk_model.specs.Asking.{first_engine}
 use Rattle.sk_model.specs.RecordTalks.{Converses, is_check}
 use Rattle.sk_commit.specs.declared.committing.Used.{Used}
-use Rattle.sk_commit.specs.declared.committing.Committing.{Committing}
 use Rattle.sk_commit.specs.Committing.{started}
-use Rattle.sk_commit.specs.Told.{CanStart, taken_steps, talk_of}
+use Rattle.sk_commit.specs.Told.{CanStart, taken_steps}
 use Rattle.sk_commit.proofs.Starting.{start_underway, start_talk}
 use Rattle.sk_session.specs.Kept.{said_maybe}
 use Rattle.sk_session.specs.declared.live.Live.{Live}

@@ -1,40 +1,31 @@
 -- A transaction that waits for an answer goes on with it: what it has asked for stays what its statement asks for.
-use Rattle.std.specs.Prelude.{◌≡◌, ℕ, ◌+◌, zero, suc, List, [], ◌∷◌, ◌++◌, Option, Some, None, Bool, true, false, cond, ◌&&◌, ◌||◌, ◌⊎◌, drop, is_some, slice_get}
-use Rattle.std.proofs.Common.{refl, sym, ap, subst, ◌∙◌, inl, inr, append-nil, append_assoc}
+use Rattle.std.specs.Prelude.{◌≡◌, ℕ, ◌+◌, zero, suc, List, [], ◌∷◌, ◌++◌, Option, Some, None, Bool, true, false, cond, ◌||◌, drop, is_some, slice_get}
+use Rattle.std.proofs.Common.{refl, sym, ap, subst, ◌∙◌, append_assoc}
 use Rattle.std.proofs.Math.Numerals.{add-one}
 use Rattle.std.specs.List.{AllByRecursion}
 use Rattle.sk_rows.specs.declared.table.Table.{Table}
 use Rattle.sk_rows.specs.declared.value.Value.{Value}
 use Rattle.sk_rows.specs.declared.statement.Statement.{Statement}
-use Rattle.sk_rows.specs.declared.statement.Statement.TheVariants as statement
 use Rattle.sk_model.specs.declared.engine.EngineName.{EngineName}
 use Rattle.sk_model.specs.declared.engine.EngineName.TheVariants.{Mem, Store}
 use Rattle.sk_model.specs.declared.commit.Write.{Write}
 use Rattle.sk_model.specs.declared.point.Point.{Point}
 use Rattle.sk_model.specs.declared.reply.Reply.{Reply}
-use Rattle.sk_model.specs.declared.reply.Reply.TheVariants as reply
-use Rattle.sk_model.specs.declared.reply.ErrWord.TheVariants as err
 use Rattle.sk_model.specs.declared.record.Said.{Said}
-use Rattle.sk_model.specs.declared.call.EngineCall.{EngineCall}
 use Rattle.sk_model.specs.declared.call.EngineCall.TheVariants as call
 use Rattle.sk_model.specs.declared.call.EngineReply.{EngineReply}
 use Rattle.sk_model.specs.declared.call.EngineReply.TheVariants as answer
-use Rattle.sk_model.specs.Database.{RowOf, KeyedRows}
-use Rattle.sk_model.specs.Names.{columns_at}
+use Rattle.sk_model.specs.Database.{KeyedRows}
 use Rattle.sk_model.specs.Reads.{one_row}
-use Rattle.sk_model.specs.Replies.{Answer, comes_to, key_read}
-use Rattle.sk_model.specs.Spoken.{is_lost}
-use Rattle.sk_model.specs.Talks.{OwnCall, Talk, own, or_else, opened_in, opened, opened_by, writes_in_call, wrote_by, wrote}
-use Rattle.sk_model.specs.Asking.{keeper, first_engine, table_named, Rest, Answers, Asks, IfDone, Opens, read_call, IfRead, Reads, put_call, PutsOne, Puts, Makes, Asked}
-use Rattle.sk_model.specs.RecordTalks.{Converses, is_last, is_end, selection_made, number_or_none}
+use Rattle.sk_model.specs.Talks.{OwnCall, Talk, own, or_else, opened, wrote}
+use Rattle.sk_model.specs.Asking.{first_engine, Rest, read_call, IfRead, put_call, Asked}
+use Rattle.sk_model.specs.RecordTalks.{Converses, is_last, selection_made, number_or_none}
 use Rattle.sk_weave.specs.declared.answer.Selected.{Selected}
-use Rattle.sk_session.specs.Kept.{listed, said_maybe}
+use Rattle.sk_session.specs.Kept.{listed}
 use Rattle.sk_session.specs.declared.live.Live.{Live}
-use Rattle.sk_session.specs.declared.live.Job.{Job}
-use Rattle.sk_session.specs.declared.live.Job.TheVariants as job
 use Rattle.sk_session.specs.Moving.{snapshot_of, opened_at, has_written, selects, is_begin}
 use Rattle.sk_session.specs.Speaks.{Knows, IsOpen, Answering}
-use Rattle.sk_session.proofs.Talking.{or_else_none, opened_append, wrote_append, spoken_push, going_push}
+use Rattle.sk_session.proofs.Talking.{or_else_none, opened_append, wrote_append}
 
 -- ---- one more call
 

@@ -2,7 +2,6 @@
 use Rattle.std.specs.Prelude.{◌≡◌, ℕ, ◌+◌, List, [], ◌∷◌, ◌++◌, Option, Some, None, Bool, true, false, cond, not, ◌⊎◌, if◌then◌else◌, is_some, slice_get, slice_set, nat_lt, length, ◌-◌, Result, Ok, Err}
 use Rattle.sk_rows.specs.declared.value.Value.{Value}
 use Rattle.sk_rows.specs.declared.table.Table.{Table}
-use Rattle.sk_rows.specs.declared.statement.Begun.{Begun}
 use Rattle.sk_rows.specs.declared.statement.Statement.{Statement}
 use Rattle.sk_rows.specs.declared.statement.Statement.TheVariants as statement
 use Rattle.sk_model.specs.declared.label.Label.{Label}
@@ -49,7 +48,6 @@ use Rattle.sk_commit.specs.declared.committing.Stepped.TheVariants.{Went, Early,
 use Rattle.sk_commit.specs.declared.committing.Taken.{Taken}
 use Rattle.sk_commit.specs.declared.committing.Taken.TheVariants as outcome
 use Rattle.sk_commit.specs.Committing.{wish_of, taken, started}
-use Rattle.sk_session.specs.declared.turn.Turn.{Turn}
 use Rattle.sk_session.specs.declared.turn.Turn.TheVariants as turn
 use Rattle.sk_session.specs.declared.live.Live.{Live}
 use Rattle.sk_session.specs.declared.live.Job.{Job}

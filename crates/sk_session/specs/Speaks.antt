@@ -1,5 +1,5 @@
 -- The calls that the live transaction of a session has made, and what it still may ask for its statement.
-use Rattle.std.specs.Prelude.{◌≡◌, ℕ, List, [], ◌∷◌, ◌++◌, Option, Some, None, Bool, true, false, cond, ◌||◌, ◌⊎◌, drop, is_some, slice_get}
+use Rattle.std.specs.Prelude.{◌≡◌, ℕ, List, [], ◌∷◌, ◌++◌, Option, Some, None, Bool, true, false, ◌⊎◌, drop, is_some, slice_get}
 use Rattle.std.specs.List.{list_any, AllByRecursion}
 use Rattle.sk_rows.specs.declared.table.Table.{Table}
 use Rattle.sk_rows.specs.declared.statement.Statement.{Statement}
@@ -23,12 +23,8 @@ use Rattle.sk_model.specs.Asking.{keeper, first_engine, table_named, Rest, Answe
 use Rattle.sk_model.specs.RecordTalks.{Converses, is_last, is_end, selection_made, EndReplyTo, lost_ending, left_by, is_check, Talks}
 use Rattle.sk_commit.specs.declared.committing.Committing.{Committing}
 use Rattle.sk_commit.specs.declared.asking.Got.{Got}
-use Rattle.sk_commit.specs.declared.asking.Got.TheVariants as given
-use Rattle.sk_commit.specs.Committing.{wish_of}
 use Rattle.sk_commit.specs.Fits.{WishFits, own_call}
 use Rattle.sk_commit.specs.Told.{Underway, talk_of, taken_steps}
-use Rattle.sk_model.specs.declared.call.EngineCall.TheVariants as call
-use Rattle.sk_model.specs.declared.call.EngineReply.TheVariants as answer
 use Rattle.sk_session.specs.declared.live.At.{At}
 use Rattle.sk_session.specs.declared.live.At.TheVariants as at
 use Rattle.sk_session.specs.declared.live.Moved.{Moved}
