@@ -206,8 +206,8 @@ module _ (catalog : List Table) (records : List Record) where
       let new : Live = opened_at live e n in
       let a : Alike live new = alike_opened live e n in
       let v : Answering catalog new w.now (Behind catalog new.label w.now) (talk ++ own e (call.Open live.label n) answer.Done ∷ []) =
-          goes_further catalog live new w.now _ _ talk (own e (call.Open live.label n) answer.Done) w.answering a (λ x o. open_still live e x n o) (knows_open live talk e n w.knows.0 w.answering.knows)
-          (λ calls r h. ((n, record { engine = refl; call = refl }), subst (λ l. Behind catalog l w.now calls r) a.label h)) in
+      goes_further catalog live new w.now _ _ talk (own e (call.Open live.label n) answer.Done) w.answering a (λ x o. open_still live e x n o) (knows_open live talk e n w.knows.0 w.answering.knows)
+      (λ calls r h. ((n, record { engine = refl; call = refl }), subst (λ l. Behind catalog l w.now calls r) a.label h)) in
       subst (λ l. Keeps catalog records l (talk ++ own e (call.Open live.label n) answer.Done ∷ []) moved) a.label
       (behind_keeps new w.now _ e moved v (opened_now live e n) (subst (λ k. Uses catalog k w.now e) (sym a.kind) w.knows.1)
       (subst (λ o. Either (behind_open catalog records new (is_begin o)) (starve records new) moved) v.statement_is is))
@@ -228,8 +228,8 @@ module _ (catalog : List Table) (records : List Record) where
       let plain : is_begin (Some now) ≡ false = names_no_begin catalog now t named in
       let a : Answer = comes_to (columns_at catalog t) t now rows in
       let v : Answering catalog live now (Puts live.label e a.0 (drop 0 a.1)) _ =
-          goes_further catalog live live now _ _ talk (own e (read_call live.label t key) x) w (same live) (λ y o. o) (knows_read live talk e t key x w.knows)
-          (λ calls r h. (record { engine = refl; call = refl }, found_then e key x rows (λ rs. Makes live.label e (comes_to (columns_at catalog t) t now rs)) calls r found (inr h))) in
+      goes_further catalog live live now _ _ talk (own e (read_call live.label t key) x) w (same live) (λ y o. o) (knows_read live talk e t key x w.knows)
+      (λ calls r h. (record { engine = refl; call = refl }, found_then e key x rows (λ rs. Makes live.label e (comes_to (columns_at catalog t) t now rs)) calls r found (inr h))) in
       puts_keep catalog records live now _ e a.1 0 a.0 moved
       (subst (λ y. Either y (starve records live) moved) (ap (λ o. answer_by records live e (answer_now catalog o rows)) w.statement_is ∙ ap (λ o. answer_by records live e (answer_in catalog now rows o)) named) is)
       v opened_it (λ declared. w.first declared plain) (answer_kept (columns_at catalog t) t now rows) plain
@@ -282,9 +282,9 @@ module _ (catalog : List Table) (records : List Record) where
       let new : Live = has_written live e in
       let a : Alike live new = alike_written live e in
       let after : Answering catalog new now (Puts new.label e said (drop (done + 1) writes)) (talk ++ own e (put_call live.label v) answer.Done ∷ []) =
-          goes_further catalog live new now _ _ talk (own e (put_call live.label v) answer.Done) w a (λ y o. still_open live e y o) (knows_put live talk e v opened_it w.knows)
-          (λ calls r h. subst (λ ws. Puts live.label e said ws (own e (put_call live.label v) answer.Done ∷ calls) r) (sym (next_write writes done v next))
-          (record { engine = refl; call = refl }, subst (λ l. Puts l e said (drop (done + 1) writes) calls r) a.label h)) in
+      goes_further catalog live new now _ _ talk (own e (put_call live.label v) answer.Done) w a (λ y o. still_open live e y o) (knows_put live talk e v opened_it w.knows)
+      (λ calls r h. subst (λ ws. Puts live.label e said ws (own e (put_call live.label v) answer.Done ∷ calls) r) (sym (next_write writes done v next))
+      (record { engine = refl; call = refl }, subst (λ l. Puts l e said (drop (done + 1) writes) calls r) a.label h)) in
       subst (λ l. Keeps catalog records l (talk ++ own e (put_call live.label v) answer.Done ∷ []) moved) a.label (puts_keep catalog records new now _ e writes (done + 1) said moved is after (still_open live e e opened_it) (λ declared. after.first declared plain) kept plain)
   put_keeps live now talk e writes done said v (answer.Fault f) moved w next kept opened_it plain fits is =
       loss_keeps catalog records live now _ (Puts live.label e said (drop (done + 1) writes)) talk e (put_call live.label v) f moved w fits (knows_unput live talk e v f w.knows)

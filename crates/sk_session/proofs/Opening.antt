@@ -151,16 +151,20 @@ module _ (catalog : List Table) (records : List Record) (live : Live) (s : State
         named (ap is_some at) is
     opens_or_reads None at unrefused usable is =
         let only : (Store ≡ keeper catalog t) × (is_some live.mem ≡ true) = only_store said_to live.kind (keeper catalog t) usable first_open at in
-        either_keeps (Keeps catalog records live.label talk) (ask_select records said_to) (starve records said_to) moved is
-        (refl, refl, record {
-          now = s;
-          answering = goes_on_so catalog said_to s AsksIt (Opens live.label Store live.mem None (Behind catalog live.label s)) talk begins_to_answer (λ calls r h.
-              works_at catalog live.label live.kind talk s t calls r named goes unrefused usable
-              (subst (λ o. Opens live.label (keeper catalog t) (opened Mem talk) o (Behind catalog live.label s) calls r) (sym (opened_is said_to talk (keeper catalog t) begins_to_answer.knows ∙ at))
-              (subst (λ m. Opens live.label (keeper catalog t) m None (Behind catalog live.label s) calls r) stands.knows.mem
-              (subst (λ e. Opens live.label e live.mem None (Behind catalog live.label s) calls r) only.0 h))));
-          knows = (subst (λ e. snapshot_of said_to e ≡ None) (sym only.0) at, only.1, uses s plain goes (t, named, sym only.0));
-        }, refl)
+        either_keeps (Keeps catalog records live.label talk) (ask_select records said_to) (starve records said_to) moved is (
+          refl,
+          refl,
+          record {
+            now = s;
+            answering = goes_on_so catalog said_to s AsksIt (Opens live.label Store live.mem None (Behind catalog live.label s)) talk begins_to_answer (λ calls r h.
+                works_at catalog live.label live.kind talk s t calls r named goes unrefused usable
+                (subst (λ o. Opens live.label (keeper catalog t) (opened Mem talk) o (Behind catalog live.label s) calls r) (sym (opened_is said_to talk (keeper catalog t) begins_to_answer.knows ∙ at))
+                (subst (λ m. Opens live.label (keeper catalog t) m None (Behind catalog live.label s) calls r) stands.knows.mem
+                (subst (λ e. Opens live.label e live.mem None (Behind catalog live.label s) calls r) only.0 h))));
+            knows = (subst (λ e. snapshot_of said_to e ≡ None) (sym only.0) at, only.1, uses s plain goes (t, named, sym only.0));
+          },
+          refl,
+        )
         (starve_keeps catalog records said_to s AsksIt talk begins_to_answer (asks_starve catalog live.label live.kind talk s goes))
       where
         uses : (x : Statement) → is_begin (Some x) ≡ false → is_end x ≡ false → (n : ℕ) × (table_named catalog x ≡ Some n) × (keeper catalog n ≡ Store) → Uses catalog live.kind x Store

@@ -161,9 +161,12 @@ module _ (catalog : List Table) (records : List Record) (live : Live) (now : Sta
     where
       by : (o : Option Write) → slice_get writes done ≡ o → Keeps catalog records live.label talk (put_at records live e writes done r o)
       by None is = say_keeps catalog records live now ToPut talk e r w opened_it first kept (puts_none (none_left writes done is))
-      by (Some v) is =
-          (refl, refl, record { now = now; answering = w; knows = (v, is, kept, opened_it, plain) },
-          ap (λ o. turn.Ask (put_wish live e o)) (sym is))
+      by (Some v) is = (
+        refl,
+        refl,
+        record { now = now; answering = w; knows = (v, is, kept, opened_it, plain) },
+        ap (λ o. turn.Ask (put_wish live e o)) (sym is),
+      )
 
   pub puts_keep : (moved : Moved) → Either (put_next records live e writes done r) (starve records live) moved → Answering catalog live now ToPut talk → IsOpen live e → (live.small ≡ false → IsOpen live (first_engine live.kind)) → is_lost r ≡ false
       → is_begin (Some now) ≡ false → Keeps catalog records live.label talk moved
