@@ -1,6 +1,0 @@
-pub mod Kept
-pub mod Moving
-pub mod Starting
-pub mod Speaks
-pub mod Refusals
-pub mod EachTalk
