@@ -11,6 +11,3 @@ mod writing;
 
 pub use pipeline::{Batch, Pipeline};
 pub use receipts::{Answering, Teller};
-
-#[cfg(test)]
-mod tests;
