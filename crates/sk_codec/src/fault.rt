@@ -1,6 +1,7 @@
 //! Why bytes could not be read.
 
 ghost use Rattle.std.specs.Prelude.{◌≡◌};
+ghost use Rattle.sk_codec.specs.declared.fault.CodecFault.TheVariants.{NoMemory as CodecWantsMemory};
 ghost use Rattle.sk_codec.specs.declared.fault.ReadFault.TheVariants.{NoMemory as ReadWantsMemory};
 
 use std::alloc::{AllocError, AllocFailed};
@@ -78,5 +79,13 @@ impl From<sk_rows::NoMemory> for ReadFault {
 
     fn from(_e: sk_rows::NoMemory) -> ReadFault {
         ReadFault::NoMemory
+    }
+}
+
+impl From<sk_rows::NoMemory> for CodecFault {
+    ghost from_gives = { λ _ e. e ≡ CodecWantsMemory };
+
+    fn from(_e: sk_rows::NoMemory) -> CodecFault {
+        CodecFault::NoMemory
     }
 }

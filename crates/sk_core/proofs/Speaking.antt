@@ -30,19 +30,10 @@ use Rattle.sk_model.specs.Names.{table_at, columns_at}
 use Rattle.sk_model.specs.Replies.{Answer, comes_to, key_read, refusal_in}
 use Rattle.sk_model.specs.Spoken.{is_lost}
 use Rattle.sk_model.specs.Talks.{OwnCall, Talk, own, call_in, calls_in, opened_by, opened_in, or_else, opened}
-use Rattle.sk_model.specs.Asking.{keeper, may_use, first_engine, fault_reply, Rest, Answers, Asks, IfDone, Opens, read_call, IfRead, Reads, put_call, Puts, Makes, Works, AsksAt, AsksOf, Asked}
+use Rattle.sk_model.specs.Asking.{keeper, may_use, first_engine, fault_reply, Rest, Answers, Starves, Asks, IfDone, Opens, read_call, IfRead, Reads, put_call, Puts, Makes, Works, AsksAt, AsksOf, Begins, Asked}
 use Rattle.sk_model.specs.RecordTalks.{is_end, Converses}
 use Rattle.sk_model.proofs.Lists.{Each, each_append}
 use Rattle.sk_core.specs.Traces.{open_entry}
-
-abbrev pub is_begin : Statement → Bool
-is_begin (statement.Begin begun) = true
-is_begin _ = false
-
--- no statement but the first is BEGIN
-abbrev pub BeginsOnce : List Said → Type 0
-BeginsOnce [] = Unit {0}
-BeginsOnce (s ∷ said) = AllByRecursion (λ (s : Said). is_begin s.statement ≡ false) said
 
 -- a read or a write of the transaction
 abbrev pub IsWork : Label → EngineCall → Type 0
@@ -279,25 +270,29 @@ module _ (tx : Label) where
   of_go catalog kind q None acc st calls r h = ends_here acc calls r st h.0
   of_go catalog kind q (Some t) acc st calls r h = at_go catalog kind q t (refusal_in (columns_at catalog t) q) acc st calls r h
 
-  asked_go : (catalog : List Table) (kind : TxKind) (q : Statement) (acc : Talk) → Stand acc → (is_begin q ≡ true → (e : EngineName) → opened e acc ≡ None) → Goes (Asked catalog tx kind acc q) acc
-  asked_go catalog kind (statement.Begin begun) acc st fresh calls r (inl h) = ends_here acc calls r st h.0
-  asked_go catalog kind (statement.Begin begun) acc st fresh calls r (inr h) = opens_go (first_engine kind) None None (Answers (reply.Began tx)) acc st (fresh refl (first_engine kind)) (λ more s st o calls r h. ends_here more calls r st h.0) calls r h
-  asked_go catalog kind statement.Commit acc st fresh calls r h = ends_here acc calls r st h.0
-  asked_go catalog kind statement.Rollback acc st fresh calls r h = ends_here acc calls r st h.0
-  asked_go catalog kind (statement.Insert table values) acc st fresh calls r (inl h) = ends_here acc calls r st h.0
-  asked_go catalog kind (statement.Insert table values) acc st fresh calls r (inr h) = of_go catalog kind (statement.Insert table values) (table_at catalog table) acc st calls r h
-  asked_go catalog kind (statement.Select table names e) acc st fresh calls r (inl h) = ends_here acc calls r st h.0
-  asked_go catalog kind (statement.Select table names e) acc st fresh calls r (inr h) = of_go catalog kind (statement.Select table names e) (table_at catalog table) acc st calls r h
-  asked_go catalog kind (statement.Update table sets e) acc st fresh calls r (inl h) = ends_here acc calls r st h.0
-  asked_go catalog kind (statement.Update table sets e) acc st fresh calls r (inr h) = of_go catalog kind (statement.Update table sets e) (table_at catalog table) acc st calls r h
-  asked_go catalog kind (statement.Delete table e) acc st fresh calls r (inl h) = ends_here acc calls r st h.0
-  asked_go catalog kind (statement.Delete table e) acc st fresh calls r (inr h) = of_go catalog kind (statement.Delete table e) (table_at catalog table) acc st calls r h
+  begins_go : (kind : TxKind) (acc : Talk) → Stand acc → acc ≡ [] → (calls : Talk) (r : Reply) → Starves calls r ⊎ Begins tx kind calls r → After acc calls r
+  begins_go kind acc st none calls r (inl h) = ends_here acc calls r st h.0
+  begins_go kind acc st none calls r (inr h) =
+      opens_go (first_engine kind) None None (Answers (reply.Began tx)) acc st (ap (opened (first_engine kind)) none) (λ more s st o calls r h. ends_here more calls r st h.0) calls r h
+
+  asked_go : (catalog : List Table) (kind : TxKind) (q : Statement) (acc : Talk) → Stand acc → Goes (Asked catalog tx kind acc q) acc
+  asked_go catalog kind (statement.Begin begun) acc st calls r h = begins_go kind acc st h.0 calls r h.2
+  asked_go catalog kind statement.Commit acc st calls r h = ends_here acc calls r st h.0
+  asked_go catalog kind statement.Rollback acc st calls r h = ends_here acc calls r st h.0
+  asked_go catalog kind (statement.Insert table values) acc st calls r (inl h) = ends_here acc calls r st h.0
+  asked_go catalog kind (statement.Insert table values) acc st calls r (inr h) = of_go catalog kind (statement.Insert table values) (table_at catalog table) acc st calls r h
+  asked_go catalog kind (statement.Select table names e) acc st calls r (inl h) = ends_here acc calls r st h.0
+  asked_go catalog kind (statement.Select table names e) acc st calls r (inr h) = of_go catalog kind (statement.Select table names e) (table_at catalog table) acc st calls r h
+  asked_go catalog kind (statement.Update table sets e) acc st calls r (inl h) = ends_here acc calls r st h.0
+  asked_go catalog kind (statement.Update table sets e) acc st calls r (inr h) = of_go catalog kind (statement.Update table sets e) (table_at catalog table) acc st calls r h
+  asked_go catalog kind (statement.Delete table e) acc st calls r (inl h) = ends_here acc calls r st h.0
+  asked_go catalog kind (statement.Delete table e) acc st calls r (inr h) = of_go catalog kind (statement.Delete table e) (table_at catalog table) acc st calls r h
 
   -- ---- statement by statement
 
-  one_by_one : (catalog : List Table) (kind : TxKind) (acc : Talk) (s : Said) (said : List Said) (talk : Talk) → Stand acc → (is_begin s.statement ≡ true → (e : EngineName) → opened e acc ≡ None)
+  one_by_one : (catalog : List Table) (kind : TxKind) (acc : Talk) (s : Said) (said : List Said) (talk : Talk) → Stand acc
       → ((acc talk : Talk) → Stand acc → Converses catalog tx kind acc said talk → (e : EngineName) → SpokenIn tx e (acc ++ talk)) → Converses catalog tx kind acc (s ∷ said) talk → (e : EngineName) → SpokenIn tx e (acc ++ talk)
-  one_by_one catalog kind acc s said talk st fresh ih h e = go (asked_go catalog kind s.statement acc st fresh h.0 s.reply h.3)
+  one_by_one catalog kind acc s said talk st ih h e = go (asked_go catalog kind s.statement acc st h.0 s.reply h.3)
     where
       go : After acc h.0 s.reply → SpokenIn tx e (acc ++ talk)
       go (inl stands) = subst (λ (t : Talk). SpokenIn tx e (acc ++ t)) (sym h.2) (subst (λ (t : Talk). SpokenIn tx e t) (append_assoc acc h.0 h.1) (ih (acc ++ h.0) h.1 stands h.5 e))
@@ -306,14 +301,10 @@ module _ (tx : Label) where
           let silent : h.1 ≡ [] = subst (λ (ss : List Said). Converses catalog tx kind (acc ++ h.0) ss h.1) none h.5 in
           subst (λ (t : Talk). SpokenIn tx e (acc ++ t)) (sym (h.2 ∙ ap (λ (t : Talk). h.0 ++ t) silent ∙ append-nil h.0)) (lost.1 e)
 
-  go_on : (catalog : List Table) (kind : TxKind) (said : List Said) → Each (λ (s : Said). is_begin s.statement ≡ false) said → (acc talk : Talk) → Stand acc → Converses catalog tx kind acc said talk → (e : EngineName) → SpokenIn tx e (acc ++ talk)
-  go_on catalog kind [] b acc talk st h e = subst (λ (t : Talk). SpokenIn tx e (acc ++ t)) (sym h) (inl (subst Stand (sym (append-nil acc)) st e))
-  go_on catalog kind (s ∷ said) b acc talk st h e = one_by_one catalog kind acc s said talk st (λ y. absurd (false≢true (sym b.0 ∙ y))) (λ acc talk st h. go_on catalog kind said b.1 acc talk st h) h e
-
-  at_first : Stand []
-  at_first e = Untouched refl refl
+  go_on : (catalog : List Table) (kind : TxKind) (said : List Said) (acc talk : Talk) → Stand acc → Converses catalog tx kind acc said talk → (e : EngineName) → SpokenIn tx e (acc ++ talk)
+  go_on catalog kind [] acc talk st h e = subst (λ (t : Talk). SpokenIn tx e (acc ++ t)) (sym h) (inl (subst Stand (sym (append-nil acc)) st e))
+  go_on catalog kind (s ∷ said) acc talk st h e = one_by_one catalog kind acc s said talk st (λ acc talk st h. go_on catalog kind said acc talk st h) h e
 
   -- the calls of a record's statements, in one engine
-  pub spoken_in : (catalog : List Table) (kind : TxKind) (said : List Said) (talk : Talk) → BeginsOnce said → Converses catalog tx kind [] said talk → (e : EngineName) → SpokenIn tx e talk
-  spoken_in catalog kind [] talk b h e = subst (λ (t : Talk). SpokenIn tx e t) (sym h) (inl (at_first e))
-  spoken_in catalog kind (s ∷ said) talk b h e = one_by_one catalog kind [] s said talk at_first (λ y n. refl) (λ acc talk st k. go_on catalog kind said b acc talk st k) h e
+  pub spoken_in : (catalog : List Table) (kind : TxKind) (said : List Said) (talk : Talk) → Converses catalog tx kind [] said talk → (e : EngineName) → SpokenIn tx e talk
+  spoken_in catalog kind said talk h e = go_on catalog kind said [] talk (λ e. Untouched refl refl) h e

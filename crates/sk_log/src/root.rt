@@ -1,6 +1,6 @@
 //! The root: which entry holds, and what it says.
 ghost use Rattle.std.specs.Prelude.{◌≡◌, ◌+◌, ◌<◌, ◌≤◌, length, take, drop, IfOk, IfSome, IsTrue};
-ghost use Rattle.sk_codec.specs.Reading.{Gives, IsPlace, rest_of};
+ghost use Rattle.sk_codec.specs.Reading.{ReadsAs, IsPlace, rest_of};
 ghost use Rattle.sk_model.specs.Numbers.{greatest_number};
 ghost use Rattle.sk_log.specs.Stores.{is_open, sequence_of, holding, byte_in, entry_at, root_of};
 
@@ -72,7 +72,7 @@ pub struct Root {
 #[tactic(auto, unfolding(crate::specs::Stores::byte_in))]
 fn byte_in(low: u8, high: u8, what: What, rest: Rest<'_>) -> Result<(u8, Rest<'_>), ReadFault>
     requires { IsPlace rest.place rest.bytes.now }
-    ensures value { Gives (λ x. (x.0, rest_of x.1)) result (byte_in low high what (rest_of rest.entry)) }
+    ensures value { ReadsAs (λ x. (x.0, rest_of x.1)) result (byte_in low high what (rest_of rest.entry)) }
     ensures within { IfOk result (λ x. x.0 ≤ high) }
     ensures place { IfOk result (λ x. IsPlace x.1.place x.1.bytes.now) }
 {
@@ -96,7 +96,7 @@ fn behind_gate(root: &[u8], at: usize) -> &[u8]
 pub fn entry_at(root: &[u8], at: usize) -> Result<Root, ReadFault>
     requires low { at ≤ 24 }
     requires whole { at + 24 ≤ length root.now }
-    ensures value { Gives root_of result (entry_at root.now at) }
+    ensures value { ReadsAs root_of result (entry_at root.now at) }
     ensures set { IfOk result (λ x. x.set < 2) }
     ensures cut { IfOk result (λ x. (x.cut.a ≤ greatest_number) × (x.cut.b ≤ greatest_number)) }
 {

@@ -202,7 +202,7 @@ starves_or a db Then goes calls r told (inr h) = goes calls r told h
 
 asked_goes : (catalog : List Table) (db : Tables) (tx : Label) (kind : TxKind) (before : Talk) (s : Statement) → Goes (answer_of catalog db s) db (Asked catalog tx kind before s)
 asked_goes catalog db tx kind before (statement.Begin begun) calls r told h =
-    starves_or None db (Begins tx kind) (opens_go None db tx _ None None (Answers (reply.Began tx)) (λ calls r told h. answers_apart None (reply.Began tx) calls r refl h)) calls r told h
+    starves_or None db (Begins tx kind) (opens_go None db tx _ None None (Answers (reply.Began tx)) (λ calls r told h. answers_apart None (reply.Began tx) calls r refl h)) calls r told h.2
 asked_goes catalog db tx kind before statement.Commit calls r told h = Apart h.1 (ap puts_in h.0)
 asked_goes catalog db tx kind before statement.Rollback calls r told h = Apart h.1 (ap puts_in h.0)
 asked_goes catalog db tx kind before (statement.Insert table values) calls r told h =

@@ -179,10 +179,10 @@ AsksOf catalog tx kind before s (Some t) calls r = AsksAt catalog tx kind before
 abbrev pub Begins : Label → TxKind → Rest
 Begins tx kind = Opens tx (first_engine kind) None None (Answers (reply.Began tx))
 
--- The calls of a statement of a transaction, behind the calls that it made before, and its reply. COMMIT and ROLLBACK end it: what
--- they make are steps of the commit, or what ends the openings.
+-- The calls of a statement of a transaction, behind the calls that it made before, and its reply. BEGIN is its first, and says its
+-- kind. COMMIT and ROLLBACK end it: what they make are steps of the commit, or what ends the openings.
 abbrev pub Asked : List Table → Label → TxKind → Talk → Statement → Rest
-Asked catalog tx kind before (statement.Begin begun) calls r = Starves calls r ⊎ Begins tx kind calls r
+Asked catalog tx kind before (statement.Begin begun) calls r = (before ≡ []) × (kind ≡ kind_begun begun) × (Starves calls r ⊎ Begins tx kind calls r)
 Asked catalog tx kind before statement.Commit calls r = (calls ≡ []) × (is_judged r ≡ false)
 Asked catalog tx kind before statement.Rollback calls r = (calls ≡ []) × (is_judged r ≡ false)
 Asked catalog tx kind before (statement.Insert table values) calls r = Starves calls r ⊎ AsksOf catalog tx kind before (statement.Insert table values) (table_at catalog table) calls r

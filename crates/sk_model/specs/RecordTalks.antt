@@ -108,6 +108,11 @@ abbrev pub is_check : StepName → Bool
 is_check Check = true
 is_check _ = false
 
+abbrev pub is_stamp : StepName → Bool
+is_stamp StampMem = true
+is_stamp StampStore = true
+is_stamp _ = false
+
 abbrev pub begins_with : (StepName → Bool) → List StepName → Bool
 begins_with is [] = false
 begins_with is (s ∷ ss) = is s
@@ -120,10 +125,11 @@ lost_ending (reply.Old engine snapshot horizon) = ending.Old
 lost_ending (reply.Refused err.Device) = ending.Device
 lost_ending _ = ending.NoMemory
 
--- how far the commit of a transaction came that ended so: these steps were taken, and these were not
+-- How far the commit of a transaction came that ended so: these steps were taken, and these were not. One that wrote both engines is
+-- committed from its check on, and one that wrote an engine alone by its stamp; until then it is open.
 abbrev pub EndsAt : Ending → List StepName → List StepName → Type 0
-EndsAt ending.Open taken rest = Unit {0}
-EndsAt ending.Committed taken rest = rest ≡ []
+EndsAt ending.Open taken rest = (list_any is_check taken || list_any is_stamp taken) ≡ false
+EndsAt ending.Committed taken rest = (rest ≡ []) ⊎ (list_any is_check taken ≡ true)
 EndsAt ending.CheckFailed taken rest = begins_with is_check rest ≡ true
 EndsAt ending.Spent taken rest = begins_with (λ s. is_draw_mem s || is_draw_store s) rest ≡ true
 EndsAt ending.NoMemory taken rest = (list_any is_draw_mem taken || list_any is_draw_store taken) ≡ false

@@ -2,7 +2,7 @@
 
 ghost use Rattle.std.specs.Prelude.{◌≡◌, ◌<◌, ◌≤◌, ◌+◌, ◌-◌, ◌^◌, ◌∷◌, [], true, false, length, drop, take, IfOk, IfSome, IfNone};
 ghost use Rattle.std.specs.List.{filter};
-ghost use Rattle.sk_codec.specs.Reading.{Gives, IsPlace, rest_of};
+ghost use Rattle.sk_codec.specs.Reading.{ReadsAs, IsPlace, rest_of};
 ghost use Rattle.sk_model.specs.Numbers.{greatest_number};
 ghost use Rattle.sk_log.specs.Calls.{store_file, anchor_file};
 ghost use Rattle.sk_log.specs.Groups.{number_of, logged_at, records_at, records_to, first_at, second_at, end_at, head_at, body_at, same_number, same_label, is_half, is_cross, half_at, halves};
@@ -27,7 +27,7 @@ fn logged_at<'a>(
 ) -> Result<(Logged, Rest<'a>), ReadFault>
     requires place { IsPlace rest.place rest.bytes.now }
     requires above { above ≤ greatest_number }
-    ensures value { Gives (λ x. (x.0, rest_of x.1)) result (logged_at tables.now store upto above (rest_of rest.entry)) }
+    ensures value { ReadsAs (λ x. (x.0, rest_of x.1)) result (logged_at tables.now store upto above (rest_of rest.entry)) }
     ensures place { IfOk result (λ x. IsPlace x.1.place x.1.bytes.now) }
     ensures small { IfOk result (λ x. number_of store x.0 ≤ greatest_number) }
 {
@@ -61,7 +61,7 @@ fn records_at<'a>(
 ) -> Result<(Vec<Logged>, Rest<'a>), ReadFault>
     requires place { IsPlace rest.place rest.bytes.now }
     requires above { above ≤ greatest_number }
-    ensures value { Gives (λ x. (x.0.items, rest_of x.1)) result (records_at tables.now store count upto above (rest_of rest.entry)) }
+    ensures value { ReadsAs (λ x. (x.0.items, rest_of x.1)) result (records_at tables.now store count upto above (rest_of rest.entry)) }
     ensures place { IfOk result (λ x. IsPlace x.1.place x.1.bytes.now) }
 {
     let mut logged = Vec::new(alloc);
@@ -79,7 +79,7 @@ fn records_at<'a>(
 #[tactic(auto, unfolding(sk_log::specs::Groups::first_at))]
 fn first_at<'a>(cut: &Point, rest: Rest<'a>) -> Result<(u32, Rest<'a>), ReadFault>
     requires { IsPlace rest.place rest.bytes.now }
-    ensures value { Gives (λ x. (x.0, rest_of x.1)) result (first_at cut.now (rest_of rest.entry)) }
+    ensures value { ReadsAs (λ x. (x.0, rest_of x.1)) result (first_at cut.now (rest_of rest.entry)) }
     ensures place { IfOk result (λ x. IsPlace x.1.place x.1.bytes.now) }
     ensures small { IfOk result (λ x. x.0 ≤ greatest_number) }
 {
@@ -93,7 +93,7 @@ fn first_at<'a>(cut: &Point, rest: Rest<'a>) -> Result<(u32, Rest<'a>), ReadFaul
 #[tactic(auto, unfolding(sk_log::specs::Groups::second_at))]
 fn second_at<'a>(cut: &Point, a: u32, rest: Rest<'a>) -> Result<(u32, Rest<'a>), ReadFault>
     requires { IsPlace rest.place rest.bytes.now }
-    ensures value { Gives (λ x. (x.0, rest_of x.1)) result (second_at cut.now a (rest_of rest.entry)) }
+    ensures value { ReadsAs (λ x. (x.0, rest_of x.1)) result (second_at cut.now a (rest_of rest.entry)) }
     ensures place { IfOk result (λ x. IsPlace x.1.place x.1.bytes.now) }
     ensures small { IfOk result (λ x. x.0 ≤ greatest_number) }
 {
@@ -107,7 +107,7 @@ fn second_at<'a>(cut: &Point, a: u32, rest: Rest<'a>) -> Result<(u32, Rest<'a>),
 #[tactic(auto, unfolding(sk_log::specs::Groups::end_at))]
 fn end_at(end: u32, rest: Rest<'_>) -> Result<(u32, Rest<'_>), ReadFault>
     requires { IsPlace rest.place rest.bytes.now }
-    ensures value { Gives (λ x. (x.0, rest_of x.1)) result (end_at end (rest_of rest.entry)) }
+    ensures value { ReadsAs (λ x. (x.0, rest_of x.1)) result (end_at end (rest_of rest.entry)) }
     ensures place { IfOk result (λ x. IsPlace x.1.place x.1.bytes.now) }
     ensures past { IfOk result (λ x. end ≤ x.0) }
 {
@@ -121,7 +121,7 @@ fn end_at(end: u32, rest: Rest<'_>) -> Result<(u32, Rest<'_>), ReadFault>
 #[tactic(auto, unfolding(sk_log::specs::Groups::head_at))]
 pub fn head_at<'a>(cut: &Point, end: u32, rest: Rest<'a>) -> Result<(Head, Rest<'a>), ReadFault>
     requires { IsPlace rest.place rest.bytes.now }
-    ensures value { Gives (λ x. (x.0, rest_of x.1)) result (head_at cut.now end (rest_of rest.entry)) }
+    ensures value { ReadsAs (λ x. (x.0, rest_of x.1)) result (head_at cut.now end (rest_of rest.entry)) }
     ensures place { IfOk result (λ x. IsPlace x.1.place x.1.bytes.now) }
     ensures small { IfOk result (λ x. (x.0.cut.a ≤ greatest_number) × (x.0.cut.b ≤ greatest_number) × (end ≤ x.0.end)) }
     ensures selection { IfOk result (λ x. x.0.cut.commit ≡ false) }
@@ -149,7 +149,7 @@ pub fn body_at(
 ) -> Result<Vec<Logged>, ReadFault>
     requires place { IsPlace rest.place rest.bytes.now }
     requires above { above ≤ greatest_number }
-    ensures value { Gives (λ x. x.items) result (body_at tables.now above upto end (rest_of rest.entry)) }
+    ensures value { ReadsAs (λ x. x.items) result (body_at tables.now above upto end (rest_of rest.entry)) }
 {
     let (count, after) = u32_at(rest)?;
     let (logged, after) = records_at(alloc, tables, false, count, upto, above, after)?;
@@ -171,7 +171,7 @@ pub fn records_to<'a>(
 ) -> Result<Vec<Logged>, ReadFault>
     requires place { IsPlace rest.place rest.bytes.now }
     requires above { above ≤ greatest_number }
-    ensures value { Gives (λ x. x.items) result (records_to tables.now true fuel end upto above (rest_of rest.entry)) }
+    ensures value { ReadsAs (λ x. x.items) result (records_to tables.now true fuel end upto above (rest_of rest.entry)) }
 {
     let mut logged = Vec::new(alloc);
     let mut last = above;
@@ -250,7 +250,7 @@ fn half(file: u8, found: &Logged) -> ReadFault
 
 /// Whether the commits of both engines are the same in both logs, in order.
 pub fn halves(store: u8, anchor: u8, stored: &[Logged], mem: &[Logged]) -> Result<(), ReadFault>
-    ensures { Gives (λ x. x) result (halves store anchor (filter is_cross stored.now) (filter is_cross mem.now)) }
+    ensures { ReadsAs (λ x. x) result (halves store anchor (filter is_cross stored.now) (filter is_cross mem.now)) }
 {
     let mut ours = stored;
     let mut theirs = mem;

@@ -4,7 +4,7 @@ ghost use Rattle.std.specs.Prelude.{◌≡◌, ◌<◌, ◌≤◌, ◌-◌, ◌^
 ghost use Rattle.std.specs.List.{AllByRecursion};
 ghost use Rattle.sk_rows.specs.Catalog.{add_fault, has_column, has_table, is_bool};
 ghost use Rattle.sk_rows.specs.Names.{is_name};
-ghost use Rattle.sk_codec.specs.Reading.{Gives, IsPlace, rest_of, items_at};
+ghost use Rattle.sk_codec.specs.Reading.{ReadsAs, IsPlace, rest_of, items_at};
 ghost use Rattle.sk_codec.specs.declared.fault.ReadFault.TheVariants.{NoMemory};
 ghost use Rattle.sk_log.specs.Images.{name_at, new_name_at, sort_at, is_none, column_at, table_at, catalog_at, is_past, rising_at, keyed_at, rows_at, all_rows_at, base_at};
 ghost use Rattle.sk_recover.specs.Taking.{IsNewColumn, AreGood, IsNewTable, Rise};
@@ -21,7 +21,7 @@ use std::cmp::Ordering;
 #[tactic(auto, using(crate::proofs::Names::name_prints), unfolding(sk_log::specs::Images::name_at))]
 fn name_at(alloc: Global, rest: Rest<'_>) -> Result<(Txt, Rest<'_>), ReadFault>
     requires { IsPlace rest.place rest.bytes.now }
-    ensures value { Gives (λ x. (x.0, rest_of x.1)) result (name_at (rest_of rest.entry)) }
+    ensures value { ReadsAs (λ x. (x.0, rest_of x.1)) result (name_at (rest_of rest.entry)) }
     ensures place { IfOk result (λ x. IsPlace x.1.place x.1.bytes.now) }
     ensures good { IfOk result (λ x. is_name x.0 ≡ true) }
 {
@@ -46,7 +46,7 @@ fn name_at(alloc: Global, rest: Rest<'_>) -> Result<(Txt, Rest<'_>), ReadFault>
 #[tactic(auto, unfolding(sk_log::specs::Images::sort_at))]
 fn sort_at(is_key: bool, rest: Rest<'_>) -> Result<(Sort, Rest<'_>), ReadFault>
     requires { IsPlace rest.place rest.bytes.now }
-    ensures value { Gives (λ x. (x.0, rest_of x.1)) result (sort_at is_key (rest_of rest.entry)) }
+    ensures value { ReadsAs (λ x. (x.0, rest_of x.1)) result (sort_at is_key (rest_of rest.entry)) }
     ensures place { IfOk result (λ x. IsPlace x.1.place x.1.bytes.now) }
     ensures key { is_key ≡ true → IfOk result (λ x. is_bool x.0 ≡ false) }
 {
@@ -84,7 +84,7 @@ fn column_name_at<'a>(
     rest: Rest<'a>,
 ) -> Result<(Txt, Rest<'a>), ReadFault>
     requires { IsPlace rest.place rest.bytes.now }
-    ensures value { Gives (λ x. (x.0, rest_of x.1)) result (new_name_at (λ text. has_column text before.now) (rest_of rest.entry)) }
+    ensures value { ReadsAs (λ x. (x.0, rest_of x.1)) result (new_name_at (λ text. has_column text before.now) (rest_of rest.entry)) }
     ensures place { IfOk result (λ x. IsPlace x.1.place x.1.bytes.now) }
     ensures new { IfOk result (λ x. (is_name x.0 ≡ true) × (has_column x.0 before.now ≡ false)) }
 {
@@ -102,7 +102,7 @@ fn table_name_at<'a>(
     rest: Rest<'a>,
 ) -> Result<(Txt, Rest<'a>), ReadFault>
     requires { IsPlace rest.place rest.bytes.now }
-    ensures value { Gives (λ x. (x.0, rest_of x.1)) result (new_name_at (λ text. has_table text before.now) (rest_of rest.entry)) }
+    ensures value { ReadsAs (λ x. (x.0, rest_of x.1)) result (new_name_at (λ text. has_table text before.now) (rest_of rest.entry)) }
     ensures place { IfOk result (λ x. IsPlace x.1.place x.1.bytes.now) }
     ensures new { IfOk result (λ x. (is_name x.0 ≡ true) × (has_table x.0 before.now ≡ false)) }
 {
@@ -129,7 +129,7 @@ fn column_at<'a>(
     rest: Rest<'a>,
 ) -> Result<(Column, Rest<'a>), ReadFault>
     requires { IsPlace rest.place rest.bytes.now }
-    ensures value { Gives (λ x. (x.0, rest_of x.1)) result (column_at before.now (rest_of rest.entry)) }
+    ensures value { ReadsAs (λ x. (x.0, rest_of x.1)) result (column_at before.now (rest_of rest.entry)) }
     ensures place { IfOk result (λ x. IsPlace x.1.place x.1.bytes.now) }
     ensures new { IfOk result (λ x. IsNewColumn before.now x.0) }
 {
@@ -145,7 +145,7 @@ fn columns_at<'a>(
     rest: Rest<'a>,
 ) -> Result<(Vec<Column>, Rest<'a>), ReadFault>
     requires { IsPlace rest.place rest.bytes.now }
-    ensures value { Gives (λ x. (x.0.items, rest_of x.1)) result (columns_at count [] (rest_of rest.entry)) }
+    ensures value { ReadsAs (λ x. (x.0.items, rest_of x.1)) result (columns_at count [] (rest_of rest.entry)) }
     ensures place { IfOk result (λ x. IsPlace x.1.place x.1.bytes.now) }
     ensures good { IfOk result (λ x. AreGood count x.0.items) }
 {
@@ -166,7 +166,7 @@ fn table_at<'a>(
     rest: Rest<'a>,
 ) -> Result<(Table, Rest<'a>), ReadFault>
     requires { IsPlace rest.place rest.bytes.now }
-    ensures value { Gives (λ x. (x.0, rest_of x.1)) result (table_at before.now (rest_of rest.entry)) }
+    ensures value { ReadsAs (λ x. (x.0, rest_of x.1)) result (table_at before.now (rest_of rest.entry)) }
     ensures place { IfOk result (λ x. IsPlace x.1.place x.1.bytes.now) }
     ensures new { IfOk result (λ x. IsNewTable before.now x.0) }
 {
@@ -204,7 +204,7 @@ fn tables_at<'a>(
 ) -> Result<(Catalog, Rest<'a>), ReadFault>
     requires few { count ≤ 64 }
     requires place { IsPlace rest.place rest.bytes.now }
-    ensures value { Gives (λ x. (x.0, rest_of x.1)) result (tables_at count [] (rest_of rest.entry)) }
+    ensures value { ReadsAs (λ x. (x.0, rest_of x.1)) result (tables_at count [] (rest_of rest.entry)) }
     ensures place { IfOk result (λ x. IsPlace x.1.place x.1.bytes.now) }
 {
     let mut catalog = Catalog::new(alloc);
@@ -220,7 +220,7 @@ fn tables_at<'a>(
 #[tactic(auto, unfolding(sk_log::specs::Images::catalog_at))]
 fn catalog_at(alloc: Global, rest: Rest<'_>) -> Result<(Catalog, Rest<'_>), ReadFault>
     requires { IsPlace rest.place rest.bytes.now }
-    ensures value { Gives (λ x. (x.0, rest_of x.1)) result (catalog_at (rest_of rest.entry)) }
+    ensures value { ReadsAs (λ x. (x.0, rest_of x.1)) result (catalog_at (rest_of rest.entry)) }
     ensures place { IfOk result (λ x. IsPlace x.1.place x.1.bytes.now) }
 {
     let (count, after) = u16_in(0, 64, rest)?;
@@ -244,7 +244,7 @@ fn rising_at<'a>(
     rest: Rest<'a>,
 ) -> Result<(Value, Rest<'a>), ReadFault>
     requires { IsPlace rest.place rest.bytes.now }
-    ensures value { Gives (λ x. (x.0, rest_of x.1)) result (rising_at columns.now before.now (rest_of rest.entry)) }
+    ensures value { ReadsAs (λ x. (x.0, rest_of x.1)) result (rising_at columns.now before.now (rest_of rest.entry)) }
     ensures place { IfOk result (λ x. IsPlace x.1.place x.1.bytes.now) }
     ensures past { IfOk result (λ x. is_past (slice_get before.now (length before.now - 1)) x.0 ≡ true) }
 {
@@ -263,7 +263,7 @@ fn keyed_at<'a>(
     rest: Rest<'a>,
 ) -> Result<((Value, Row), Rest<'a>), ReadFault>
     requires { IsPlace rest.place rest.bytes.now }
-    ensures value { Gives (λ x. (x.0, rest_of x.1)) result (keyed_at columns.now before.now (rest_of rest.entry)) }
+    ensures value { ReadsAs (λ x. (x.0, rest_of x.1)) result (keyed_at columns.now before.now (rest_of rest.entry)) }
     ensures place { IfOk result (λ x. IsPlace x.1.place x.1.bytes.now) }
     ensures past { IfOk result (λ x. is_past (slice_get before.now (length before.now - 1)) x.0.0 ≡ true) }
 {
@@ -280,7 +280,7 @@ fn keyeds_at<'a>(
     rest: Rest<'a>,
 ) -> Result<(Vec<(Value, Row)>, Rest<'a>), ReadFault>
     requires { IsPlace rest.place rest.bytes.now }
-    ensures value { Gives (λ x. (x.0.items, rest_of x.1)) result (keyeds_at columns.now count [] (rest_of rest.entry)) }
+    ensures value { ReadsAs (λ x. (x.0.items, rest_of x.1)) result (keyeds_at columns.now count [] (rest_of rest.entry)) }
     ensures place { IfOk result (λ x. IsPlace x.1.place x.1.bytes.now) }
     ensures rise { IfOk result (λ x. Rise x.0.items) }
 {
@@ -301,7 +301,7 @@ fn rows_at<'a>(
     rest: Rest<'a>,
 ) -> Result<(KeyedRows, Rest<'a>), ReadFault>
     requires { IsPlace rest.place rest.bytes.now }
-    ensures value { Gives (λ x. (x.0, rest_of x.1)) result (rows_at columns.now (rest_of rest.entry)) }
+    ensures value { ReadsAs (λ x. (x.0, rest_of x.1)) result (rows_at columns.now (rest_of rest.entry)) }
     ensures place { IfOk result (λ x. IsPlace x.1.place x.1.bytes.now) }
     ensures rise { IfOk result (λ x. Rise x.0) }
 {
@@ -316,7 +316,7 @@ fn all_rows_at<'a>(
     rest: Rest<'a>,
 ) -> Result<(Vec<KeyedRows>, Rest<'a>), ReadFault>
     requires { IsPlace rest.place rest.bytes.now }
-    ensures value { Gives (λ x. (x.0.items, rest_of x.1)) result (all_rows_at tables.now (rest_of rest.entry)) }
+    ensures value { ReadsAs (λ x. (x.0.items, rest_of x.1)) result (all_rows_at tables.now (rest_of rest.entry)) }
     ensures count { IfOk result (λ x. length x.0.items ≡ length tables.now) }
     ensures place { IfOk result (λ x. IsPlace x.1.place x.1.bytes.now) }
     ensures rise { IfOk result (λ x. AllByRecursion Rise x.0.items) }
@@ -350,7 +350,7 @@ pub fn base_at(
     bytes: &[u8],
     size: u64,
 ) -> Result<(Catalog, Vec<KeyedRows>), ReadFault>
-    ensures value { Gives base_of result (base_at file bytes.now size) }
+    ensures value { ReadsAs base_of result (base_at file bytes.now size) }
     ensures count { IfOk result (λ x. length x.1.items ≡ length x.0) }
     ensures rise { IfOk result (λ x. AllByRecursion Rise x.1.items) }
 {

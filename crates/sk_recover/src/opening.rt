@@ -21,7 +21,7 @@ use sk_codec::{ReadFault, What};
 use sk_device::Device;
 use sk_log::{Ends, Root, empty_image, entry_at, entry_text, holding};
 use sk_model::{CommitList, KeyedRows, Point, Tables};
-use sk_rows::{Catalog, Copies};
+use sk_rows::{Catalog, Copies, NoMemory};
 use std::alloc::Global;
 use thiserror::Error;
 
@@ -37,6 +37,14 @@ pub enum OpenFault {
     /// Memory was wanted and refused.
     #[error("out of memory")]
     NoMemory,
+}
+
+impl From<NoMemory> for OpenFault {
+    ghost from_gives = { λ _ e. e ≡ fault.NoMemory };
+
+    fn from(_e: NoMemory) -> OpenFault {
+        OpenFault::NoMemory
+    }
 }
 
 /// What a disk opens as: its tables, the rows of the image, and what both logs have.

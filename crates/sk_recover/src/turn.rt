@@ -2,7 +2,7 @@
 
 ghost use Rattle.std.specs.Prelude.{◌≡◌, ◌<◌, ◌≤◌, ◌+◌, ◌++◌, false, List, length, drop, IfOk, IfErr, OnOk};
 ghost use Rattle.sk_rows.specs.declared.table.Table.{Table as AnyTable};
-ghost use Rattle.sk_codec.specs.Reading.{Gives};
+ghost use Rattle.sk_codec.specs.Reading.{ReadsAs};
 ghost use Rattle.sk_model.specs.Numbers.{greatest_number};
 ghost use Rattle.sk_log.specs.Stores.{at_place, commits, range_of, body_of, stored_of, group_of, group_at, next_gate, behind_gate, turn, turns};
 ghost use Rattle.sk_recover.specs.Views.{reached_of, reached_in, IsReached, IsTurn};
@@ -53,7 +53,7 @@ fn range_of(bytes: &[u8], from: usize, upto: u64) -> &[u8]
 #[tactic(auto, unfolding(sk_log::specs::Stores::next_gate))]
 fn next_gate(set: u8, gate: u32, two: &[u8]) -> Result<u32, ReadFault>
     requires { set < 2 }
-    ensures value { Gives (λ x. x) result (next_gate set gate (range_of two.now (gate + 1) (gate + 5))) }
+    ensures value { ReadsAs (λ x. x) result (next_gate set gate (range_of two.now (gate + 1) (gate + 5))) }
     ensures past { IfOk result (λ x. gate + 5 ≤ x) }
 {
     let rest = Rest {
@@ -79,7 +79,7 @@ fn body_of(
 ) -> Result<(Head, Vec<Logged>), ReadFault>
     requires set { s.now.set < 2 }
     requires cut { s.now.cut.a ≤ greatest_number }
-    ensures value { Gives (λ x. (x.0, x.1.items)) result (body_of (reached_of tables.now s.now) next (range_of two.now (s.now.gate + 5) next)) }
+    ensures value { ReadsAs (λ x. (x.0, x.1.items)) result (body_of (reached_of tables.now s.now) next (range_of two.now (s.now.gate + 5) next)) }
     ensures small { IfOk result (λ x. (x.0.cut.a ≤ greatest_number) × (x.0.cut.b ≤ greatest_number) × (s.now.end ≤ x.0.end)) }
     ensures selection { IfOk result (λ x. x.0.cut.commit ≡ false) }
 {
@@ -104,7 +104,7 @@ fn stored_of(
     requires set { s.now.set < 2 }
     requires cut { s.now.cut.b ≤ greatest_number }
     requires end { s.now.end ≤ head.now.end }
-    ensures { Gives (λ x. x.items) result (stored_of (reached_of tables.now s.now) head.now (range_of one.now s.now.end head.now.end)) }
+    ensures { ReadsAs (λ x. x.items) result (stored_of (reached_of tables.now s.now) head.now (range_of one.now s.now.end head.now.end)) }
 {
     let rest = Rest {
         file: 1 + 2 * s.set,
@@ -154,7 +154,7 @@ fn group_of(
     gate: u32,
 ) -> Result<Reached, ReadFault>
     requires { IsReached s }
-    ensures value { (catalog : List AnyTable) → Gives (reached_of catalog) result (group_of (reached_of catalog s) head mem.items store.items gate) }
+    ensures value { (catalog : List AnyTable) → ReadsAs (reached_of catalog) result (group_of (reached_of catalog s) head mem.items store.items gate) }
     ensures places { IfOk result (λ x. (x.set ≡ s.set) × (x.cut ≡ head.cut)) }
 {
     halves(
@@ -187,7 +187,7 @@ fn group_at(
     next: u32,
 ) -> Result<Reached, ReadFault>
     requires { IsReached s }
-    ensures value { Gives (reached_of tables.now) result (group_at one.now two.now (reached_of tables.now s) next) }
+    ensures value { ReadsAs (reached_of tables.now) result (group_at one.now two.now (reached_of tables.now s) next) }
     ensures reached { IfOk result (λ x. IsReached x) }
 {
     let (head, mem) = body_of(alloc, tables, &s, next, two)?;
@@ -207,7 +207,7 @@ fn behind_gate(
     s: Reached,
 ) -> Result<Reached, ReadFault>
     requires { IsReached s }
-    ensures value { Gives (reached_of tables.now) result (behind_gate one.now two.now (reached_of tables.now s)) }
+    ensures value { ReadsAs (reached_of tables.now) result (behind_gate one.now two.now (reached_of tables.now s)) }
     ensures reached { IfOk result (λ x. IsReached x) }
 {
     let next = next_gate(s.set, s.gate, two)?;
@@ -253,7 +253,7 @@ pub fn turns(
     s: Reached,
 ) -> Result<Reached, ReadFault>
     requires { IsReached s }
-    ensures value { Gives (reached_of tables.now) result (turns (length two.now + 1) one.now two.now (reached_of tables.now s)) }
+    ensures value { ReadsAs (reached_of tables.now) result (turns (length two.now + 1) one.now two.now (reached_of tables.now s)) }
     ensures reached { IfOk result (λ x. IsReached x) }
 {
     let mut reached = s;
