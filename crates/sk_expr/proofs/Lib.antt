@@ -1,9 +1,5 @@
--- sorts and values along the left side of an expression
+-- the shape of a condition
 pub mod Sides
-pub mod Operations
-pub mod Typed
-pub mod Checked
-pub mod Sound
 -- the rows that can matter, and what a statement comes to over them
 pub mod Extensions
 pub mod Taking

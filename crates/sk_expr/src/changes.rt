@@ -9,7 +9,7 @@ ghost use Rattle.sk_rows.specs.declared.faults.ValueFault.TheVariants as fault;
 ghost use Rattle.sk_model.specs.Changes as spec;
 ghost use Rattle.sk_expr.specs.Extended.{Extends};
 
-use crate::evaluation::value_over;
+use sk_eval::value_over;
 use sk_model::KeyedRows;
 use sk_rows::{Column, Copies, NoMemory, Row, SetItem, Txt, Value, ValueFault};
 use std::alloc::Global;

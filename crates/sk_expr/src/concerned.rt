@@ -6,7 +6,7 @@ ghost use Rattle.sk_rows.specs.Evaluation.{wants_memory};
 ghost use Rattle.sk_model.specs.Reads.{meets as meets_of};
 ghost use Rattle.sk_expr.specs.Concerns as spec;
 
-use crate::evaluation::holds_over;
+use sk_eval::holds_over;
 use sk_rows::{Column, Expr, NoMemory, Row, Statement, Table, ValueFault};
 use std::alloc::Global;
 

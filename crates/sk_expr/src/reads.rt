@@ -5,7 +5,7 @@ ghost use Rattle.sk_rows.specs.Memory.{Gives};
 ghost use Rattle.sk_rows.specs.Evaluation.{wants_memory};
 ghost use Rattle.sk_model.specs.Reads as spec;
 
-use crate::evaluation::{column_value, holds_over};
+use sk_eval::{column_value, holds_over};
 use sk_model::{KeyedRows, RowList};
 use sk_rows::{Column, Expr, NameList, NoMemory, Row, Value, ValueFault};
 use std::alloc::Global;

@@ -3,7 +3,7 @@
 ghost use Rattle.std.specs.Prelude.{◌≡◌};
 ghost use Rattle.sk_model.specs.Sorts as spec;
 
-use crate::typing::{column_sort, same_sort, sort_over};
+use sk_eval::{column_sort, same_sort, sort_over};
 use sk_rows::{Column, Expr, SetItem, Sort, TypeFault, Value};
 
 pub(crate) fn have_sorts(values: &[Value], columns: &[Column]) -> bool

@@ -1,18 +1,17 @@
 use super::*;
-use sk_rows::{Boxed, Column, Expr, List, Op, Row, Sort, Table, Txt, Value};
+use sk_model::{
+    Commit, CommitList, Ending, ErrWord, KeyedRows, Label, PointList, Record, Reply, RowList, Said,
+    SaidList, Tables, TxKind, Write, WriteList,
+};
+use sk_rows::{
+    Boxed, Catalog, Column, ColumnList, Expr, NameList, Op, Row, SetItem, SetList, Sort, Statement,
+    Table, Txt, Value,
+};
 use std::test::Fail;
 
-// What is wanted of an expression.
-#[derive(Clone, Copy, PartialEq, Eq)]
-enum Wanted {
-    Number(i64),
-    Truth(bool),
-    Overflow,
-    UnknownColumn,
-    TypeMismatch,
-}
+const GREATEST: i64 = 9223372036854775807;
 
-pub(crate) fn text(rt: &HostRuntime, word: &[u8]) -> Result<Txt, Fail> {
+fn text(rt: &HostRuntime, word: &[u8]) -> Result<Txt, Fail> {
     let bytes = word.to_vec(rt.alloc())?;
     match Txt::from_vec(bytes) {
         Ok(text) => Ok(text),
@@ -20,168 +19,320 @@ pub(crate) fn text(rt: &HostRuntime, word: &[u8]) -> Result<Txt, Fail> {
     }
 }
 
-fn column(rt: &HostRuntime, name: &[u8], sort: Sort) -> Result<Column, Fail> {
-    Ok(Column {
-        name: text(rt, name)?,
-        sort,
-    })
+fn two(rt: &HostRuntime, op: Op, left: Expr, right: Expr) -> Result<Expr, Fail> {
+    let left = Boxed::new(rt.alloc(), left)?;
+    let right = Boxed::new(rt.alloc(), right)?;
+    Ok(Expr::Two(op, left, right))
 }
 
-// The table of the columns `id` and `v` of numbers, `t` of texts and `b` of truths.
-fn table(rt: &HostRuntime) -> Result<Table, Fail> {
-    let mut columns = Vec::new(rt.alloc());
-    columns.push(column(rt, b"id", Sort::Int)?)?;
-    columns.push(column(rt, b"v", Sort::Int)?)?;
-    columns.push(column(rt, b"t", Sort::Text)?)?;
-    columns.push(column(rt, b"b", Sort::Bool)?)?;
+fn number(n: i64) -> Expr {
+    Expr::Lit(Value::Int(n))
+}
+
+// The column, this operator, and 1.
+fn with_one(rt: &HostRuntime, column: &[u8], op: Op) -> Result<Expr, Fail> {
+    two(rt, op, Expr::Col(text(rt, column)?), number(1))
+}
+
+// `v AND TRUE OR zz = 1`
+fn unknown_behind_a_wrong_sort(rt: &HostRuntime) -> Result<Expr, Fail> {
+    let left = two(
+        rt,
+        Op::And,
+        Expr::Col(text(rt, b"v")?),
+        Expr::Lit(Value::Bool(true)),
+    )?;
+    two(rt, Op::Or, left, with_one(rt, b"zz", Op::Eq)?)
+}
+
+fn table(
+    rt: &HostRuntime,
+    name: &[u8],
+    columns: &[&[u8]],
+    sort: Sort,
+    store: bool,
+) -> Result<Table, Fail> {
+    let mut list = ColumnList::new(rt.alloc());
+    for column in columns {
+        list.push(Column {
+            name: text(rt, column)?,
+            sort,
+        })?;
+    }
     Ok(Table {
-        name: text(rt, b"a")?,
-        store: false,
-        columns: List::from_vec(columns),
+        name: text(rt, name)?,
+        store,
+        columns: list,
     })
 }
 
-// The row 1, v, 'ab', TRUE.
-fn row(rt: &HostRuntime, v: i64) -> Result<Row, Fail> {
-    let mut values = Vec::new(rt.alloc());
-    values.push(Value::Int(1))?;
-    values.push(Value::Int(v))?;
-    values.push(Value::Text(text(rt, b"ab")?))?;
-    values.push(Value::Bool(true))?;
-    Ok(List::from_vec(values))
+// The tables `a` and `c` of the numbers `id` and `v`, and `w` of five texts.
+fn catalog(rt: &HostRuntime) -> Result<Catalog, Fail> {
+    let mut catalog = Catalog::new(rt.alloc());
+    let numbers: [&[u8]; 2] = [b"id", b"v"];
+    let texts: [&[u8]; 5] = [b"id", b"a", b"b", b"c", b"d"];
+    let a = catalog.add(table(rt, b"a", &numbers, Sort::Int, false)?);
+    let c = catalog.add(table(rt, b"c", &numbers, Sort::Int, true)?);
+    let w = catalog.add(table(rt, b"w", &texts, Sort::Text, true)?);
+    if a.is_err() || c.is_err() || w.is_err() {
+        Err("a table was refused")?
+    }
+    Ok(catalog)
 }
 
-fn operator(word: &str) -> Option<Op> {
-    match word {
-        "OR" => Some(Op::Or),
-        "AND" => Some(Op::And),
-        "=" => Some(Op::Eq),
-        "<>" => Some(Op::Ne),
-        "<" => Some(Op::Lt),
-        "<=" => Some(Op::Le),
-        ">" => Some(Op::Gt),
-        ">=" => Some(Op::Ge),
-        "+" => Some(Op::Add),
-        "-" => Some(Op::Sub),
-        "*" => Some(Op::Mul),
-        _ => None,
+fn row(rt: &HostRuntime, key: i64, v: i64) -> Result<Row, Fail> {
+    let mut row = Row::new(rt.alloc());
+    row.push(Value::Int(key))?;
+    row.push(Value::Int(v))?;
+    Ok(row)
+}
+
+// Five texts of 255 times this byte.
+fn large(rt: &HostRuntime, byte: u8) -> Result<Row, Fail> {
+    let long = [byte; 255];
+    let mut row = Row::new(rt.alloc());
+    for _ in 0..5 {
+        row.push(Value::Text(text(rt, &long)?))?;
+    }
+    Ok(row)
+}
+
+// The row (1, v) of `a`, and in `w` one whose key is 255 times the letter a.
+fn opening(rt: &HostRuntime, v: i64) -> Result<Tables, Fail> {
+    let mut numbers = KeyedRows::new(rt.alloc());
+    numbers.push((Value::Int(1), row(rt, 1, v)?))?;
+    let mut texts = KeyedRows::new(rt.alloc());
+    texts.push((Value::Text(text(rt, &[b'a'; 255])?), large(rt, b'a')?))?;
+    let mut tables = Tables::new(rt.alloc());
+    tables.push(numbers)?;
+    tables.push(KeyedRows::new(rt.alloc()))?;
+    tables.push(texts)?;
+    Ok(tables)
+}
+
+fn select(rt: &HostRuntime, table: &[u8], cond: Option<Expr>) -> Result<Statement, Fail> {
+    Ok(Statement::Select {
+        table: text(rt, table)?,
+        columns: None,
+        cond,
+    })
+}
+
+fn update(
+    rt: &HostRuntime,
+    column: &[u8],
+    value: Expr,
+    cond: Option<Expr>,
+) -> Result<Statement, Fail> {
+    let mut sets = SetList::new(rt.alloc());
+    sets.push(SetItem {
+        column: text(rt, column)?,
+        value,
+    })?;
+    Ok(Statement::Update {
+        table: text(rt, b"a")?,
+        sets,
+        cond,
+    })
+}
+
+fn insert(rt: &HostRuntime, table: &[u8], values: Row) -> Result<Statement, Fail> {
+    Ok(Statement::Insert {
+        table: text(rt, table)?,
+        values,
+    })
+}
+
+// `SELECT z FROM a`
+fn select_z(rt: &HostRuntime) -> Result<Statement, Fail> {
+    let mut names = NameList::new(rt.alloc());
+    names.push(text(rt, b"z")?)?;
+    Ok(Statement::Select {
+        table: text(rt, b"a")?,
+        columns: Some(names),
+        cond: None,
+    })
+}
+
+fn short_row(rt: &HostRuntime) -> Result<Row, Fail> {
+    let mut row = Row::new(rt.alloc());
+    row.push(Value::Int(2))?;
+    Ok(row)
+}
+
+fn record(rt: &HostRuntime, said: SaidList) -> Record {
+    Record {
+        label: Label { session: 1, k: 1 },
+        kind: TxKind::Cross,
+        mem: Some(0),
+        store: Some(0),
+        said,
+        ending: Ending::Committed,
+        drew_mem: None,
+        drew_store: None,
+        made: PointList::new(rt.alloc()),
     }
 }
 
-// A value or a column.
-fn leaf(rt: &HostRuntime, word: &str) -> Result<Expr, Fail> {
-    if word == "TRUE" || word == "FALSE" {
-        return Ok(Expr::Lit(Value::Bool(word == "TRUE")));
-    }
-    if let Ok(number) = word.parse::<i64>() {
-        return Ok(Expr::Lit(Value::Int(number)));
-    }
-    match word.as_bytes() {
-        [b'\'', rest @ ..] => Ok(Expr::Lit(Value::Text(text(rt, rest)?))),
-        name => Ok(Expr::Col(text(rt, name)?)),
-    }
-}
-
-fn top(rt: &HostRuntime, stack: &mut Vec<Expr>) -> Result<Boxed<Expr>, Fail> {
-    match stack.pop() {
-        Some(e) => Ok(Boxed::new(rt.alloc(), e)?),
-        None => Err("an operator has too few sides")?,
+// Whether a record of this statement alone is explained over the opening tables.
+fn is_explained(rt: &HostRuntime, statement: Statement, reply: Reply) -> Result<bool, Fail> {
+    let mut said = SaidList::new(rt.alloc());
+    said.push(Said { statement, reply })?;
+    let tx = record(rt, said);
+    let answer = explain(
+        rt.alloc(),
+        &catalog(rt)?,
+        &[],
+        &opening(rt, GREATEST)?,
+        &tx,
+        0,
+    );
+    match answer {
+        Ok(answer) => Ok(answer),
+        Err(_) => Err("no memory")?,
     }
 }
 
-fn put_word(rt: &HostRuntime, stack: &mut Vec<Expr>, word: &str) -> Result<(), Fail> {
-    let e = match operator(word) {
-        Some(op) => {
-            let right = top(rt, stack)?;
-            let left = top(rt, stack)?;
-            Expr::Two(op, left, right)
+// Statements that are refused over the opening tables, each with its word. An unknown name comes before a set key and
+// before a wrong sort.
+fn refused_statement(rt: &HostRuntime, number: usize) -> Result<(Statement, ErrWord), Fail> {
+    match number {
+        0 => Ok((select(rt, b"z", None)?, ErrWord::Table)),
+        1 => Ok((select_z(rt)?, ErrWord::Column)),
+        2 => {
+            let cond = unknown_behind_a_wrong_sort(rt)?;
+            Ok((select(rt, b"a", Some(cond))?, ErrWord::Column))
         }
-        None if word == "NOT" => Expr::Not(top(rt, stack)?),
-        None => leaf(rt, word)?,
-    };
-    stack.push(e)?;
-    Ok(())
-}
-
-// The expression of these words, each operator behind its sides.
-pub(crate) fn expr(rt: &HostRuntime, words: &str) -> Result<Expr, Fail> {
-    let mut stack = Vec::new(rt.alloc());
-    for word in words.split(' ') {
-        put_word(rt, &mut stack, word)?;
-    }
-    match stack.pop() {
-        Some(e) => Ok(e),
-        None => Err("there is no expression")?,
+        3 => {
+            let cond = with_one(rt, b"z", Op::Eq)?;
+            Ok((update(rt, b"id", number(2), Some(cond))?, ErrWord::Column))
+        }
+        4 => Ok((update(rt, b"id", number(2), None)?, ErrWord::Key)),
+        5 => Ok((insert(rt, b"a", short_row(rt)?)?, ErrWord::Type)),
+        6 => Ok((
+            update(rt, b"v", with_one(rt, b"v", Op::Add)?, None)?,
+            ErrWord::Overflow,
+        )),
+        7 => Ok((insert(rt, b"w", large(rt, b'a')?)?, ErrWord::Duplicate)),
+        _ => Ok((insert(rt, b"w", large(rt, b'b')?)?, ErrWord::Size)),
     }
 }
 
-fn answer(rt: &HostRuntime, e: &Expr, a: &Table, r: &Row) -> Result<Wanted, Fail> {
-    match type_check(e, a) {
-        Err(TypeFault::UnknownColumn) => return Ok(Wanted::UnknownColumn),
-        Err(TypeFault::TypeMismatch) => return Ok(Wanted::TypeMismatch),
-        Ok(_) => {}
-    }
-    match value(rt.alloc(), e, a, r) {
-        Ok(Value::Int(n)) => Ok(Wanted::Number(n)),
-        Ok(Value::Bool(b)) => Ok(Wanted::Truth(b)),
-        Ok(Value::Text(_)) => Err("a text is not wanted")?,
-        Err(ValueFault::Overflow) => Ok(Wanted::Overflow),
-        Err(ValueFault::NoMemory) => Err("no memory")?,
-    }
-}
-
-const AT_TEN: [(&str, Wanted); 30] = [
-    ("v 1 +", Wanted::Number(11)),
-    ("v 12 -", Wanted::Number(-2)),
-    ("v v *", Wanted::Number(100)),
-    ("2 3 4 + *", Wanted::Number(14)),
-    ("v 10 =", Wanted::Truth(true)),
-    ("v 10 <>", Wanted::Truth(false)),
-    ("v 10 <", Wanted::Truth(false)),
-    ("v 10 <=", Wanted::Truth(true)),
-    ("v 9 >", Wanted::Truth(true)),
-    ("v 11 >=", Wanted::Truth(false)),
-    ("t 'ab =", Wanted::Truth(true)),
-    ("t 'b <", Wanted::Truth(true)),
-    ("t 'abc <", Wanted::Truth(true)),
-    ("'B t <", Wanted::Truth(true)),
-    ("b FALSE AND", Wanted::Truth(false)),
-    ("b FALSE OR", Wanted::Truth(true)),
-    ("b NOT", Wanted::Truth(false)),
-    ("b TRUE =", Wanted::Truth(true)),
-    ("v 20 < b NOT AND", Wanted::Truth(false)),
-    ("b 9223372036854775807 v * 0 = OR", Wanted::Overflow),
-    ("FALSE 9223372036854775807 1 + 0 = AND", Wanted::Overflow),
-    ("-9223372036854775808 1 -", Wanted::Overflow),
-    ("-9223372036854775808 -1 *", Wanted::Overflow),
-    ("w NOT", Wanted::UnknownColumn),
-    ("v NOT", Wanted::TypeMismatch),
-    ("v t +", Wanted::TypeMismatch),
-    ("v t =", Wanted::TypeMismatch),
-    ("b TRUE <", Wanted::TypeMismatch),
-    ("w v v AND +", Wanted::UnknownColumn),
-    ("v v AND w +", Wanted::TypeMismatch),
+const WORDS: [ErrWord; 7] = [
+    ErrWord::Table,
+    ErrWord::Column,
+    ErrWord::Key,
+    ErrWord::Type,
+    ErrWord::Overflow,
+    ErrWord::Duplicate,
+    ErrWord::Size,
 ];
 
 #[test]
-fn values_worked_out_by_hand(rt: HostRuntime) -> Result<(), Fail> {
-    let a = table(&rt)?;
-    let r = row(&rt, 10)?;
-    for (words, wanted) in AT_TEN {
-        let e = expr(&rt, words)?;
-        assert!(rt; answer(&rt, &e, &a, &r)? == wanted);
+fn each_refusal_by_its_word_alone(rt: HostRuntime) -> Result<(), Fail> {
+    for number in 0..9 {
+        for word in WORDS {
+            let (statement, wanted) = refused_statement(&rt, number)?;
+            let answer = is_explained(&rt, statement, Reply::Refused(word))?;
+            assert!(rt; answer == (word == wanted));
+        }
     }
     Ok(())
 }
 
+fn rows(rt: &HostRuntime, v: i64) -> Result<Reply, Fail> {
+    let mut rows = RowList::new(rt.alloc());
+    rows.push(row(rt, 1, v)?)?;
+    Ok(Reply::Rows(rows))
+}
+
+fn no_rows(rt: &HostRuntime) -> Reply {
+    Reply::Rows(RowList::new(rt.alloc()))
+}
+
+// `UPDATE a SET v = v + 1`, then `SELECT * FROM a WHERE id = 1`, then `DELETE FROM a`, then `SELECT * FROM a`.
 #[test]
-fn the_greatest_number_and_a_condition(rt: HostRuntime) -> Result<(), Fail> {
-    let a = table(&rt)?;
-    let sum = expr(&rt, "v 1 +")?;
-    assert!(rt; answer(&rt, &sum, &a, &row(&rt, 9223372036854775807)?)? == Wanted::Overflow);
-    let less = expr(&rt, "v 3 <")?;
-    assert!(rt; matches!(type_check(&less, &a), Ok(Sort::Bool)));
-    assert!(rt; matches!(holds(rt.alloc(), &less, &a, &row(&rt, 2)?), Ok(true)));
-    assert!(rt; matches!(holds(rt.alloc(), &less, &a, &row(&rt, 3)?), Ok(false)));
+fn a_record_sees_its_own_writes(rt: HostRuntime) -> Result<(), Fail> {
+    let mut said = SaidList::new(rt.alloc());
+    said.push(Said {
+        statement: update(&rt, b"v", with_one(&rt, b"v", Op::Add)?, None)?,
+        reply: Reply::Count(1),
+    })?;
+    said.push(Said {
+        statement: select(&rt, b"a", Some(with_one(&rt, b"id", Op::Eq)?))?,
+        reply: rows(&rt, 11)?,
+    })?;
+    said.push(Said {
+        statement: Statement::Delete {
+            table: text(&rt, b"a")?,
+            cond: None,
+        },
+        reply: Reply::Count(1),
+    })?;
+    said.push(Said {
+        statement: select(&rt, b"a", None)?,
+        reply: no_rows(&rt),
+    })?;
+    let tx = record(&rt, said);
+    let answer = explain(rt.alloc(), &catalog(&rt)?, &[], &opening(&rt, 10)?, &tx, 0);
+    assert!(rt; matches!(answer, Ok(true)));
+    Ok(())
+}
+
+fn empty(rt: &HostRuntime) -> Result<Tables, Fail> {
+    let mut tables = Tables::new(rt.alloc());
+    for _ in 0..3 {
+        tables.push(KeyedRows::new(rt.alloc()))?;
+    }
+    Ok(tables)
+}
+
+// (1, 10) into `a` and (1, 20) into `c`.
+fn order(rt: &HostRuntime) -> Result<CommitList, Fail> {
+    let mut writes = WriteList::new(rt.alloc());
+    writes.push(Write {
+        table: 0,
+        key: Value::Int(1),
+        row: Some(row(rt, 1, 10)?),
+    })?;
+    writes.push(Write {
+        table: 1,
+        key: Value::Int(1),
+        row: Some(row(rt, 1, 20)?),
+    })?;
+    let mut order = CommitList::new(rt.alloc());
+    order.push(Commit {
+        label: Label { session: 2, k: 1 },
+        mem: Some(1),
+        store: Some(1),
+        writes,
+    })?;
+    Ok(order)
+}
+
+// A transaction that reads both tables and sees neither of the two writes of the commit beside it.
+#[test]
+fn a_reader_beside_a_commit(rt: HostRuntime) -> Result<(), Fail> {
+    let mut said = SaidList::new(rt.alloc());
+    said.push(Said {
+        statement: select(&rt, b"a", None)?,
+        reply: no_rows(&rt),
+    })?;
+    said.push(Said {
+        statement: select(&rt, b"c", None)?,
+        reply: no_rows(&rt),
+    })?;
+    said.push(Said {
+        statement: Statement::Commit,
+        reply: Reply::Committed,
+    })?;
+    let tx = record(&rt, said);
+    let order = order(&rt)?;
+    let commits = order.as_slice();
+    let catalog = catalog(&rt)?;
+    let before = explain(rt.alloc(), &catalog, commits, &empty(&rt)?, &tx, 0);
+    assert!(rt; matches!(before, Ok(true)));
+    let behind = explain(rt.alloc(), &catalog, commits, &empty(&rt)?, &tx, 1);
+    assert!(rt; matches!(behind, Ok(false)));
     Ok(())
 }

@@ -8,4 +8,3 @@ pub mod Rules
 pub mod Faults
 pub mod Tables
 pub mod Words
-pub mod Text

@@ -10,7 +10,7 @@ use Rattle.sk_model.specs.Spoken.{Spoken}
 use Rattle.sk_plain.specs.Standing.{opening_of}
 use Rattle.sk_plain.specs.declared.played.Played.{Played}
 use Rattle.sk_script.specs.declared.script.Script.{Script}
-use Rattle.sk_script.specs.Text.{script_fault_text}
+use Rattle.sk_text.specs.Text.{script_fault_text}
 use Rattle.sk_serial.specs.declared.playing.Shown.{Shown}
 use Rattle.sk_serial.specs.declared.run_fault.RunFault.{RunFault}
 use Rattle.sk_serial.specs.declared.run_fault.RunFault.TheVariants as run_fault

@@ -10,7 +10,7 @@ use Rattle.sk_plain.specs.Session.{played_of}
 use Rattle.sk_script.specs.declared.script.Line.{Line}
 use Rattle.sk_script.specs.declared.script.Line.TheVariants as line
 use Rattle.sk_script.specs.declared.script.Script.{Script}
-use Rattle.sk_script.specs.Text.{replies_text, report}
+use Rattle.sk_text.specs.Text.{replies_text, report}
 
 abbrev pub session_in : Line → ℕ
 session_in (line.Says session statement) = session

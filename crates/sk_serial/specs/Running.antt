@@ -12,7 +12,7 @@ use Rattle.sk_plain.specs.Standing.{opening_of}
 use Rattle.sk_script.specs.declared.script.Script.{Script}
 use Rattle.sk_script.specs.declared.script.ScriptFault.TheVariants as fault
 use Rattle.sk_script.specs.Script.{script_of}
-use Rattle.sk_script.specs.Text.{script_fault_text}
+use Rattle.sk_text.specs.Text.{script_fault_text}
 use Rattle.sk_script.specs.Limits.{most_read}
 use Rattle.sk_serial.specs.declared.playing.Shown.{Shown}
 use Rattle.sk_serial.specs.declared.run_fault.RunFault.{RunFault}

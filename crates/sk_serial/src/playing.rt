@@ -9,7 +9,7 @@ ghost use Rattle.sk_plain.specs.Session.{played_of};
 ghost use Rattle.sk_plain.specs.Standing.{opening_of};
 ghost use Rattle.sk_rows.specs.Catalog.{add_fault};
 ghost use Rattle.sk_script.specs.Tables.{CanAdd};
-ghost use Rattle.sk_script.specs.Text.{replies_text};
+ghost use Rattle.sk_text.specs.Text.{replies_text};
 ghost use Rattle.sk_serial.specs.Played as spec;
 ghost use Rattle.sk_serial.specs.Running.{IsShown};
 

@@ -8,7 +8,7 @@ ghost use Rattle.sk_outside.specs.Pieces.{AppendsFront, ConsumesAtMost};
 ghost use Rattle.sk_script.specs.Limits.{most_read};
 ghost use Rattle.sk_script.specs.Words.{place as place_of};
 ghost use Rattle.sk_script.specs.Tables.{CanAdd};
-ghost use Rattle.sk_script.specs.Text.{script_fault_text};
+ghost use Rattle.sk_text.specs.Text.{script_fault_text};
 ghost use Rattle.sk_serial.specs.Played.{tables_in};
 ghost use Rattle.sk_serial.specs.Running as spec;
 

@@ -1,7 +1,7 @@
 use Rattle.std.proofs.Common.{◌≡◌, ◌++◌, length}
 use Rattle.std.specs.List.{zip}
 use Rattle.std.specs.String.{string_bytes}
-use Rattle.sk_script.specs.Text.{replies_text}
+use Rattle.sk_text.specs.Text.{replies_text}
 use Rattle.sk_serial.proofs.playing.put_replies.Given as goal
 
 -- What is written and the replies to come make all of them.

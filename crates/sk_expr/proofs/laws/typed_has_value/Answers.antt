@@ -1,5 +1,0 @@
-use Rattle.sk_expr.proofs.Sound.{sound}
-use Rattle.sk_expr.proofs.laws.typed_has_value.Goals as goal
-
-pub returns : goal.returns
-returns c = sound

@@ -1,7 +1,0 @@
-use Rattle.std.proofs.Common.{append_assoc}
-use Rattle.sk_script.specs.Text.{script_fault_text}
-use Rattle.sk_script.proofs.fault_line.put_script_fault.Goals as goal
-
-pub returns : goal.returns
-unfolding script_fault_text
-returns c = simp append_assoc c.in_ok-write.ensures.bytes

@@ -1,7 +1,0 @@
-use Rattle.std.proofs.Common.{append_assoc}
-use Rattle.sk_script.specs.Text.{failed_at}
-use Rattle.sk_script.proofs.replies.put_failed_at.Goals as goal
-
-pub returns : goal.returns
-unfolding failed_at
-returns c = simp append_assoc c.in_ok-write.ensures.bytes

@@ -1,0 +1,14 @@
+//! The texts of what runs print.
+#![tactic(auto)]
+
+mod fault_line;
+mod pieces;
+mod replies;
+mod report;
+
+pub use fault_line::put_script_fault;
+pub use replies::put_reply_lines;
+pub use report::put_report;
+
+#[cfg(test)]
+mod tests;
