@@ -1,0 +1,16 @@
+pub mod Named
+pub mod Talking
+pub mod Judged
+pub mod Waiting
+pub mod Starts
+pub mod Leaving
+pub mod Committed
+pub mod Keeping
+pub mod Standing
+pub mod Saying
+pub mod Going
+pub mod Opening
+pub mod Taken
+pub mod Left
+pub mod Refused
+pub mod Recorded

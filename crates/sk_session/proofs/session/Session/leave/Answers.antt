@@ -1,0 +1,6 @@
+-- Leaving keeps the talks of all records.
+use Rattle.sk_session.proofs.Recorded.{leave_talks}
+use Rattle.sk_session.proofs.session.Session.leave.Goals as goal
+
+pub returns-clause-talks : goal.returns-clause-talks
+returns-clause-talks c = leave_talks c.args.self.now c.leave_now.new.self c.leave_now.result c.leave_now.ensures

@@ -1,0 +1,6 @@
+pub mod Kept
+pub mod Moving
+pub mod Starting
+pub mod Speaks
+pub mod Refusals
+pub mod EachTalk
