@@ -1,4 +1,4 @@
--- the versions of a row
+-- the versions of a row; Trimming is theory for others too
 pub mod Newest
 pub mod Finding
 pub mod Trimming

@@ -1,15 +1,15 @@
--- points: the staircase, selections, pairs and cuts
+-- points: the staircase, selections, pairs and cuts; theory for others too
 pub mod Staircase
 pub mod Picks
 pub mod Pairs
 pub mod Cuts
--- the list is woven, and has what each engine has
+-- the list is woven, and has what each engine has; theory for others too
 pub mod Merging
 pub mod Parts
 pub mod Running
 pub mod Content
 mod Halved
--- at a pair the list splits; prefixes, and what they hold
+-- at a pair the list splits; prefixes, and what they hold; theory for others too
 pub mod Splits
 pub mod Alone
 pub mod Prefixes
@@ -18,12 +18,12 @@ pub mod Holding
 pub mod Upto
 pub mod Engines
 pub mod Crossings
--- what a transaction reads and writes over the list
+-- what a transaction reads and writes over the list: theory for others too
 pub mod Held
 pub mod Keys
 pub mod Writers
 pub mod Wins
--- a registry of points, and what comes ahead of a transaction
+-- a registry of points, and what comes ahead of a transaction: theory for others too
 pub mod Registers
 pub mod Aheads
 -- worked examples
