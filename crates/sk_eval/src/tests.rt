@@ -1,5 +1,5 @@
 use super::*;
-use sk_rows::{Boxed, Column, Expr, List, Op, Row, Sort, Table, Txt, Value};
+use sk_rows::{Boxed, Column, Expr, List, Op, Row, Sort, Table, Txt, TypeFault, Value, ValueFault};
 use std::test::Fail;
 
 // What is wanted of an expression.

@@ -25,13 +25,13 @@ fn two(rt: &HostRuntime, op: Op, left: Expr, right: Expr) -> Result<Expr, Fail> 
     Ok(Expr::Two(op, left, right))
 }
 
-fn number(n: i64) -> Expr {
+fn literal(n: i64) -> Expr {
     Expr::Lit(Value::Int(n))
 }
 
 // The column, this operator, and 1.
 fn with_one(rt: &HostRuntime, column: &[u8], op: Op) -> Result<Expr, Fail> {
-    two(rt, op, Expr::Col(text(rt, column)?), number(1))
+    two(rt, op, Expr::Col(text(rt, column)?), literal(1))
 }
 
 // `v AND TRUE OR zz = 1`
@@ -205,9 +205,9 @@ fn refused_statement(rt: &HostRuntime, number: usize) -> Result<(Statement, ErrW
         }
         3 => {
             let cond = with_one(rt, b"z", Op::Eq)?;
-            Ok((update(rt, b"id", number(2), Some(cond))?, ErrWord::Column))
+            Ok((update(rt, b"id", literal(2), Some(cond))?, ErrWord::Column))
         }
-        4 => Ok((update(rt, b"id", number(2), None)?, ErrWord::Key)),
+        4 => Ok((update(rt, b"id", literal(2), None)?, ErrWord::Key)),
         5 => Ok((insert(rt, b"a", short_row(rt)?)?, ErrWord::Type)),
         6 => Ok((
             update(rt, b"v", with_one(rt, b"v", Op::Add)?, None)?,
