@@ -39,7 +39,7 @@ before_from : (s : StepName) (ts : List StepName) → ts ≡ steps_before s ts +
 before_from s [] = refl
 before_from s (t ∷ ts) = cut_or (same_step s t) t ts (steps_before s ts) (steps_from s ts) (before_from s ts)
 
-cut_steps : (used : Used) (o : Option StepName) → steps_of used ≡ taken_until used o ++ not_taken used o
+pub cut_steps : (used : Used) (o : Option StepName) → steps_of used ≡ taken_until used o ++ not_taken used o
 cut_steps used None = sym (append-nil (steps_of used))
 cut_steps used (Some s) = before_from s (steps_of used)
 
@@ -47,7 +47,7 @@ abbrev used_as : Bool → Bool → Bool → Bool → Used
 used_as om os wm ws = record { open_mem = om; open_store = os; wrote_mem = wm; wrote_store = ws }
 
 -- a commit of nothing has no step
-no_step : (om os : Bool) (s : StepName) → has_refused (used_as om os false false) (Some s) ≡ true → ⊥
+pub no_step : (om os : Bool) (s : StepName) → has_refused (used_as om os false false) (Some s) ≡ true → ⊥
 no_step om os CloseMem e = absurd cc
 no_step om os CloseStore e = absurd cc
 no_step om os DrawMem e = absurd cc
@@ -83,7 +83,7 @@ owes_store_is (CheckFailed point mem store) snapshot om wm ws = refl
 owes_store_is (Spent engine mem) snapshot om wm ws = refl
 owes_store_is NoMemory snapshot om wm ws = refl
 
-point_made : (b : Bool) (mem store : Option ℕ) → listed (passed_at b mem store) ≡ cond b (record { a = number_or_none mem; b = number_or_none store; commit = true } ∷ []) []
+pub point_made : (b : Bool) (mem store : Option ℕ) → listed (passed_at b mem store) ≡ cond b (record { a = number_or_none mem; b = number_or_none store; commit = true } ∷ []) []
 point_made true mem store = refl
 point_made false mem store = refl
 
@@ -191,14 +191,14 @@ commit_lost (CheckFailed point mem store) e = absurd cc
 commit_lost (Spent engine mem) e = absurd cc
 commit_lost NoMemory e = refl
 
-all_replied : (r : Record) (said : List Said) (last : List Said) → AllByRecursion (λ (s : Said). is_last s ≡ false) said → AllByRecursion (EndReply r) last → AllByRecursion (EndReply r) (said ++ last)
+pub all_replied : (r : Record) (said : List Said) (last : List Said) → AllByRecursion (λ (s : Said). is_last s ≡ false) said → AllByRecursion (EndReply r) last → AllByRecursion (EndReply r) (said ++ last)
 all_replied r [] last going h = h
 all_replied r (x ∷ said) last going h = (not_an_end r x.reply x.statement (parts (is_lost x.reply) (is_end x.statement) going.0).1, all_replied r said last going.1 h)
 
 abbrev LostSo : Record → List Said → Type 0
 LostSo r said = AllByRecursion (λ (s : Said). is_lost s.reply ≡ true → r.ending ≡ lost_ending s.reply) said
 
-all_lost : (r : Record) (said : List Said) (last : List Said) → AllByRecursion (λ (s : Said). is_last s ≡ false) said → LostSo r last → LostSo r (said ++ last)
+pub all_lost : (r : Record) (said : List Said) (last : List Said) → AllByRecursion (λ (s : Said). is_last s ≡ false) said → LostSo r last → LostSo r (said ++ last)
 all_lost r [] last going h = h
 all_lost r (x ∷ said) last going h =
     let kept : is_lost x.reply ≡ false = (parts (is_lost x.reply) (is_end x.statement) going.0).0 in

@@ -26,9 +26,10 @@ use Rattle.sk_commit.specs.Told.{talk_of, taken_steps, GoesOn, Keeps as CommitKe
 use Rattle.sk_commit.proofs.Taking.{take_keeps}
 use Rattle.sk_session.specs.declared.live.Live.{Live}
 use Rattle.sk_session.specs.Moving.{record_of, finish, drops, next_opened, on, stepped, went_on, commit_goes, end_ending, end_reply}
-use Rattle.sk_session.specs.Speaks.{HeardIs, Commits, Leaves, Keeps}
+use Rattle.sk_session.specs.Speaks.{HeardIs, Commits, IsAtStep, Leaves, Keeps}
 use Rattle.sk_session.proofs.Leaving.{left_mem, left_mem_last, left_store}
 use Rattle.sk_session.proofs.Committed.{declared_talks, small_talks}
+use Rattle.sk_session.proofs.Stages.{GoesToStep, taken_on}
 
 -- the transaction is over
 pub finish_keeps : (catalog : List Table) (records : List Record) (live : Live) (how : Ending) (r : Reply) (lost : Bool) (talk : Talk) → Talks catalog (record_of live how r) talk → Keeps catalog records live.label talk (finish records live how r lost)
@@ -87,15 +88,15 @@ module _ (catalog : List Table) (records : List Record) (live : Live) (c : Commi
   stepped_label StampMem n = refl
   stepped_label StampStore n = refl
 
-  went_keeps : (whole : Bool) (d : Committing) (step : StepName) (n : Option ℕ) → (whole ≡ false → own ≡ None) → Commits catalog (stepped live step n) d own (talk ++ more)
+  went_keeps : (whole : Bool) (d : Committing) (step : StepName) (n : Option ℕ) → (whole ≡ false → own ≡ None) → Commits catalog (stepped live step n) d own (talk ++ more) → IsAtStep d.stage
       → Keeps catalog records live.label (talk ++ more) (went_on records (stepped live step n) d step n whole own)
-  went_keeps true d step n alone k = (refl, stepped_label step n, (k, λ e. absurd cc), refl)
-  went_keeps false d step n alone k = (refl, stepped_label step n, subst (λ o. Commits catalog (stepped live step n) d o (talk ++ more)) (alone refl) k)
+  went_keeps true d step n alone k next = (refl, stepped_label step n, (k, λ e. absurd cc), refl)
+  went_keeps false d step n alone k next = (refl, stepped_label step n, (subst (λ o. Commits catalog (stepped live step n) d o (talk ++ more)) (alone refl) k, next))
 
-  commit_keeps : (whole : Bool) (t : Taken) → (whole ≡ false → own ≡ None) → CommitKeeps c (talk_of c ++ more) t → Keeps catalog records live.label (talk ++ more) (commit_goes records live t whole own)
-  commit_keeps whole (outcome.More d) alone k = (refl, refl, (more_keeps d k, alone), refl)
-  commit_keeps whole (outcome.Step (Went d step n)) alone k = went_keeps whole d step n alone (step_keeps d step n k)
-  commit_keeps whole (outcome.Step (Early d floor counter)) alone k =
+  commit_keeps : (whole : Bool) (t : Taken) → (whole ≡ false → own ≡ None) → CommitKeeps c (talk_of c ++ more) t → GoesToStep t → Keeps catalog records live.label (talk ++ more) (commit_goes records live t whole own)
+  commit_keeps whole (outcome.More d) alone k on = (refl, refl, (more_keeps d k, alone), refl)
+  commit_keeps whole (outcome.Step (Went d step n)) alone k on = went_keeps whole d step n alone (step_keeps d step n k) on
+  commit_keeps whole (outcome.Step (Early d floor counter)) alone k on =
       (refl, refl, (subst (λ x. Commits catalog live x own (talk ++ more)) (sym k.0) (early_keeps k.1), alone), refl)
     where
       early_keeps : talk_of c ≡ talk_of c ++ more → Commits catalog live c own (talk ++ more)
@@ -118,7 +119,7 @@ module _ (catalog : List Table) (records : List Record) (live : Live) (c : Commi
         underway = w.underway;
         talk_is = ap (λ t. t ++ more) w.talk_is ∙ append_assoc w.spoken (talk_of c) more ∙ ap (λ t. w.spoken ++ t) (sym e);
       }
-  commit_keeps whole (outcome.Step (Ended end)) alone k = finish_keeps catalog records live (end_ending end) (end_reply end own) false (talk ++ more) (ended own w)
+  commit_keeps whole (outcome.Step (Ended end)) alone k on = finish_keeps catalog records live (end_ending end) (end_reply end own) false (talk ++ more) (ended own w)
     where
       ended : (o : Option Reply) → Commits catalog live c o talk → Talks catalog (record_of live (end_ending end) (end_reply end o)) (talk ++ more)
       ended None v = declared_talks catalog live c talk more end k v
@@ -127,7 +128,7 @@ module _ (catalog : List Table) (records : List Record) (live : Live) (c : Commi
 pub take_commit : (catalog : List Table) (records : List Record) (live : Live) (c : Committing) (whole : Bool) (own : Option Reply) (talk : Talk) (got : Got) → Commits catalog live c own talk → (whole ≡ false → own ≡ None) → WishFits (wish_of c) got
     → Keeps catalog records live.label (talk ++ own_call (wish_of c) got) (commit_goes records live (taken c got) whole own)
 take_commit catalog records live c whole own talk got w alone fits =
-    commit_keeps catalog records live c own talk (own_call (wish_of c) got) w whole (taken c got) alone (take_keeps c got (taken c got) refl w.underway fits)
+    commit_keeps catalog records live c own talk (own_call (wish_of c) got) w whole (taken c got) alone (take_keeps c got (taken c got) refl w.underway fits) (taken_on c got)
 
 -- ---- the ends of openings
 

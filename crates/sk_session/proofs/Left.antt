@@ -22,7 +22,7 @@ use Rattle.sk_session.specs.declared.live.At.TheVariants as at
 use Rattle.sk_session.specs.declared.live.Moved.{Moved}
 use Rattle.sk_session.specs.declared.session.Session.{Session}
 use Rattle.sk_session.specs.Moving.{says, commits, starve, Either, is_begin, begins, label_after, engine_kind, judged_outside, InsideTable, StartsInside, OutsideTable, StartsOutside, start_stepping, start_ended, refuses, StartsAt, leave_at}
-use Rattle.sk_session.specs.Speaks.{Stands, Commits, Keeps, BegunAt, StartKept, LeaveKept}
+use Rattle.sk_session.specs.Speaks.{Stands, Commits, Pauses, Keeps, BegunAt, StartKept, LeaveKept}
 use Rattle.sk_session.specs.Starting.{Starts, Leaves, moved_to}
 use Rattle.sk_session.proofs.Standing.{commit_keeps, left_behind, rolled_back, give_up_keeps}
 use Rattle.sk_session.proofs.Opening.{inside_keeps, begins_keep, small_keeps, judges}
@@ -73,9 +73,9 @@ at_inside catalog old live (Some (statement.Select table names e)) moved is talk
 at_inside catalog old live (Some (statement.Update table sets e)) moved is talk stands = table_keeps catalog old live (statement.Update table sets e) moved refl refl is talk stands
 at_inside catalog old live (Some (statement.Delete table e)) moved is talk stands = table_keeps catalog old live (statement.Delete table e) moved refl refl is talk stands
 
-stepping_keeps : (catalog : List Table) (old : List Record) (live : Live) (c : Committing) (s : Option Statement) (talk : Talk) → Commits catalog live c None talk → Keeps catalog old live.label talk (start_stepping old live c s)
-stepping_keeps catalog old live c None talk w = (refl, refl, (w, λ x. refl), refl)
-stepping_keeps catalog old live c (Some statement.Commit) talk w = (refl, refl, (hears_commit catalog live c talk w, λ x. absurd cc), refl)
+stepping_keeps : (catalog : List Table) (old : List Record) (live : Live) (c : Committing) (s : Option Statement) (talk : Talk) → Pauses catalog live c talk → Keeps catalog old live.label talk (start_stepping old live c s)
+stepping_keeps catalog old live c None talk w = (refl, refl, (w.0, λ x. refl), refl)
+stepping_keeps catalog old live c (Some statement.Commit) talk w = (refl, refl, (hears_commit catalog live c talk w.0, λ x. absurd cc), refl)
 stepping_keeps catalog old live c _ talk w = (refl, refl, w)
 
 -- what is refused where no transaction is live

@@ -14,3 +14,5 @@ pub mod Taken
 pub mod Left
 pub mod Refused
 pub mod Recorded
+pub mod Stages
+pub mod Pausing

@@ -15,12 +15,13 @@ use Rattle.sk_session.specs.declared.live.At.{At}
 use Rattle.sk_session.specs.declared.live.At.TheVariants as at
 use Rattle.sk_session.specs.declared.live.Moved.{Moved}
 use Rattle.sk_session.specs.declared.session.Session.{Session}
-use Rattle.sk_session.specs.Moving.{with_last, place_of, label_after}
+use Rattle.sk_session.specs.Moving.{with_last, record_now, records_at, place_of, label_after}
 use Rattle.sk_session.specs.Speaks.{SpeaksAt, BegunAt, Unmoved, TakeKept, StartKept, LeaveKept}
-use Rattle.sk_session.specs.Starting.{Starts, Takes, Leaves, moved_to}
+use Rattle.sk_session.specs.Starting.{Starts, Takes, Leaves, moved_to, records_now}
 use Rattle.sk_session.proofs.Taken.{takes_keep}
 use Rattle.sk_session.proofs.Left.{starts_keep, leave_keeps}
-use Rattle.sk_session.specs.EachTalk.{label_at, EachTalks, LastLive, HasTalks, grown, AnswerFits, call_made, talks_from, StartTalks, TakeTalks, LeaveTalks}
+use Rattle.sk_session.proofs.Pausing.{standing_talks, paused_talks}
+use Rattle.sk_session.specs.EachTalk.{label_at, EachTalks, LastLive, HasTalks, grown, AnswerFits, call_made, talks_from, StartTalks, TakeTalks, LeaveTalks, IsBetween, TalksNow}
 
 if_true : {X : Type 0} (b : Bool) (x y : X) → b ≡ true → (if b then x else y) ≡ x
 if_true true x y e = refl
@@ -154,3 +155,20 @@ leave_at catalog number old (at.Asking live doing) moved talks kept h = unmoved_
 pub leave_talks : (old new : Session) (turn : Turn) → Leaves old new turn → LeaveTalks old new
 leave_talks old new turn l catalog talks h =
     subst (λ n. HasTalks catalog n new.records new.at talks) (sym l.number) (leave_at catalog old.number old.records old.at (moved_to new turn) talks (leave_keeps old new turn l) h)
+
+-- ---- between two lines
+
+now_talks : (catalog : List Table) (number : ℕ) (records : List Record) (talks : List Talk) (label : Label) (talk : Talk) (r : Record) → LastLive catalog number records talks label talk → r.label ≡ label → Talks catalog r talk → EachTalks catalog number 1 (with_last records r) talks
+now_talks catalog number records talks label talk r l same has =
+    subst (λ ts. EachTalks catalog number 1 (with_last records r) ts) (grown_none talks)
+    (is_over catalog number records talks label talk l [] r same (subst (Talks catalog r) (sym (append-nil talk)) has))
+
+between : (catalog : List Table) (number : ℕ) (records : List Record) (there : At) (talks : List Talk) → HasTalks catalog number records there talks → IsBetween there → EachTalks catalog number 1 (records_at records there) talks
+between catalog number records at.Outside talks h is = h
+between catalog number records at.Ended talks h is = h
+between catalog number records (at.Inside live) talks h is = now_talks catalog number records talks live.label h.0 (record_now live) h.1 refl (standing_talks catalog live h.0 h.2)
+between catalog number records (at.Stepping live c) talks h is = now_talks catalog number records talks live.label h.0 (record_now live) h.1 refl (paused_talks catalog live c h.0 h.2)
+between catalog number records (at.Asking live doing) talks h is = absurd is
+
+pub talks_now : (s : Session) (records : List Record) → records ≡ records_now s → TalksNow s records
+talks_now s records is catalog talks h there = subst (λ rs. EachTalks catalog s.number 1 rs talks) (sym is) (between catalog s.number s.records s.at talks h there)

@@ -11,7 +11,7 @@ use Rattle.sk_session.specs.declared.live.At.{At}
 use Rattle.sk_session.specs.declared.live.At.TheVariants as at
 use Rattle.sk_session.specs.declared.session.Session.{Session}
 use Rattle.sk_session.specs.Moving.{wished}
-use Rattle.sk_session.specs.Speaks.{Stands, Commits, JobSpeaks}
+use Rattle.sk_session.specs.Speaks.{Stands, Pauses, JobSpeaks}
 
 abbrev pub label_at : ℕ → ℕ → Label
 label_at number k = record { session = number; k = k }
@@ -38,7 +38,7 @@ abbrev pub HasTalks : List Table → ℕ → List Record → At → List Talk �
 HasTalks catalog number records at.Outside talks = EachTalks catalog number 1 records talks
 HasTalks catalog number records at.Ended talks = EachTalks catalog number 1 records talks
 HasTalks catalog number records (at.Inside live) talks = (talk : Talk) × LastLive catalog number records talks live.label talk × Stands catalog live talk
-HasTalks catalog number records (at.Stepping live c) talks = (talk : Talk) × LastLive catalog number records talks live.label talk × Commits catalog live c None talk
+HasTalks catalog number records (at.Stepping live c) talks = (talk : Talk) × LastLive catalog number records talks live.label talk × Pauses catalog live c talk
 HasTalks catalog number records (at.Asking live doing) talks = (talk : Talk) × LastLive catalog number records talks live.label talk × JobSpeaks catalog live doing talk
 
 -- the last talk has one call more, where one was made
@@ -81,3 +81,12 @@ TakeTalks catalog old got new = (talks : List Talk) → SessionTalks catalog old
 -- leaving a session keeps its talks
 abbrev pub LeaveTalks : Session → Session → Type 0
 LeaveTalks old new = (catalog : List Table) (talks : List Talk) → SessionTalks catalog old talks → SessionTalks catalog new talks
+
+-- it waits for no answer
+abbrev pub IsBetween : At → Type 0
+IsBetween (at.Asking live doing) = ⊥
+IsBetween _ = Unit {0}
+
+-- between two lines each of these records has its label and its talk, that of a live transaction too
+abbrev pub TalksNow : Session → List Record → Type 0
+TalksNow s records = (catalog : List Table) (talks : List Talk) → SessionTalks catalog s talks → IsBetween s.at → EachTalks catalog s.number 1 records talks

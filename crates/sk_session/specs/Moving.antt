@@ -76,19 +76,27 @@ passed_at passed mem store = if passed then Some (record { a = number_or_none me
 abbrev pub point_passed : Live → Option Point
 point_passed live = passed_at live.passed live.drew_mem live.drew_store
 
--- its record, where it ends so; the statement that is being answered has this reply
-abbrev pub record_of : Live → Ending → Reply → Record
-record_of live how r = record {
+-- its record with this ending, and with this statement behind the others
+abbrev pub record_with : Live → Ending → Option Said → Record
+record_with live how last = record {
   label = live.label;
   kind = live.kind;
   mem = live.mem;
   store = live.store;
-  said = live.said ++ said_maybe (said_now live.statement r);
+  said = live.said ++ said_maybe last;
   ending = how;
   drew_mem = live.drew_mem;
   drew_store = live.drew_store;
   made = listed live.selected ++ listed (point_passed live);
 }
+
+-- its record, where it ends so; the statement that is being answered has this reply
+abbrev pub record_of : Live → Ending → Reply → Record
+record_of live how r = record_with live how (said_now live.statement r)
+
+-- its record between two lines: it counts as committed from its check on, and is open until then
+abbrev pub record_now : Live → Record
+record_now live = record_with live (if live.passed then ending.Committed else ending.Open) None
 
 -- the last of these records is now this one
 abbrev pub with_last : List Record → Record → List Record
@@ -541,6 +549,12 @@ abbrev pub TakesAt : List Table → List Record → At → Got → Moved → Typ
 TakesAt catalog records (at.Asking live doing) got moved =
     GoesAs catalog records live doing got moved
 TakesAt catalog records there got moved = moved ≡ refuses records there err.Committing
+
+-- the records, that of a live transaction too as far as it has come
+abbrev pub records_at : List Record → At → List Record
+records_at records (at.Inside live) = with_last records (record_now live)
+records_at records (at.Stepping live c) = with_last records (record_now live)
+records_at records there = records
 
 -- what a session that stands there does as it is left
 abbrev pub leave_at : List Record → At → Moved

@@ -22,6 +22,8 @@ use Rattle.sk_model.specs.Talks.{Talk, opened, wrote}
 use Rattle.sk_model.specs.Asking.{keeper, first_engine, table_named, Rest, Answers, Opens, Reads, Puts, Makes, Asked}
 use Rattle.sk_model.specs.RecordTalks.{Converses, is_last, is_end, selection_made, EndReplyTo, lost_ending, left_by, is_check, Talks}
 use Rattle.sk_commit.specs.declared.committing.Committing.{Committing}
+use Rattle.sk_commit.specs.declared.committing.Stage.{Stage}
+use Rattle.sk_commit.specs.declared.committing.Stage.TheVariants.{Step, Leave}
 use Rattle.sk_commit.specs.declared.asking.Got.{Got}
 use Rattle.sk_commit.specs.Fits.{WishFits, own_call}
 use Rattle.sk_commit.specs.Told.{Underway, talk_of, taken_steps}
@@ -182,6 +184,15 @@ pub record Commits (catalog : List Table) (live : Live) (c : Committing) (own : 
   pub passed : live.passed ≡ list_any is_check (taken_steps c)
   pub underway : Underway c
 
+-- a step of a commit comes next
+abbrev pub IsAtStep : Stage → Type 0
+IsAtStep (Step s) = Unit {0}
+IsAtStep (Leave refused engine end) = ⊥
+
+-- a transaction between two steps of its commit has made the calls of its statements and of the steps that it took
+abbrev pub Pauses : List Table → Live → Committing → Talk → Type 0
+Pauses catalog live c talk = Commits catalog live c None talk × IsAtStep c.stage
+
 -- the calls of a transaction that waits for this
 abbrev pub JobSpeaks : List Table → Live → Job → Talk → Type 0
 JobSpeaks catalog live (job.Commit c whole own) talk = Commits catalog live c own talk × (whole ≡ false → own ≡ None)
@@ -198,7 +209,7 @@ abbrev pub SpeaksAt : List Table → List Record → Label → List Record → A
 SpeaksAt catalog old label new at.Outside turn talk = (r : Record) × (new ≡ with_last old r) × (r.label ≡ label) × Talks catalog r talk
 SpeaksAt catalog old label new at.Ended turn talk = (r : Record) × (new ≡ with_last old r) × (r.label ≡ label) × Talks catalog r talk
 SpeaksAt catalog old label new (at.Inside live) turn talk = (new ≡ old) × (live.label ≡ label) × Stands catalog live talk
-SpeaksAt catalog old label new (at.Stepping live c) turn talk = (new ≡ old) × (live.label ≡ label) × Commits catalog live c None talk
+SpeaksAt catalog old label new (at.Stepping live c) turn talk = (new ≡ old) × (live.label ≡ label) × Pauses catalog live c talk
 SpeaksAt catalog old label new (at.Asking live doing) turn talk = (new ≡ old) × (live.label ≡ label) × JobSpeaks catalog live doing talk × (turn ≡ turn_to.Ask (wished live doing))
 
 -- what was made of a session whose live transaction, of this label, had these calls
@@ -230,7 +241,7 @@ abbrev pub StartKept : List Table → ℕ → List Record → At → Moved → T
 StartKept catalog number old at.Outside moved = BegunAt catalog old (label_after number old) moved moved.at
 StartKept catalog number old at.Ended moved = BegunAt catalog old (label_after number old) moved moved.at
 StartKept catalog number old (at.Inside live) moved = (talk : Talk) → Stands catalog live talk → Keeps catalog old live.label talk moved
-StartKept catalog number old (at.Stepping live c) moved = (talk : Talk) → Commits catalog live c None talk → Keeps catalog old live.label talk moved
+StartKept catalog number old (at.Stepping live c) moved = (talk : Talk) → Pauses catalog live c talk → Keeps catalog old live.label talk moved
 StartKept catalog number old (at.Asking live doing) moved = Unmoved old (at.Asking live doing) moved
 
 -- and so does leaving the session

@@ -8,7 +8,7 @@ use Rattle.sk_session.specs.declared.live.Moved.{Moved}
 use Rattle.sk_session.specs.declared.session.Session.{Session}
 use Rattle.sk_session.specs.declared.live.At.TheVariants.{Outside}
 use Rattle.sk_model.specs.declared.record.Record.{Record}
-use Rattle.sk_session.specs.Moving.{StartsAt, TakesAt, leave_at}
+use Rattle.sk_session.specs.Moving.{StartsAt, TakesAt, leave_at, records_at}
 use Rattle.sk_session.specs.Refusals.{RefusesByTable}
 use Rattle.sk_session.specs.Speaks.{StartKept, TakeKept, LeaveKept}
 
@@ -31,9 +31,13 @@ pub record Leaves (old new : Session) (turn : Turn) : Type 0 where
 abbrev pub fresh : ℕ → Session
 fresh number = record { number = number; records = []; at = Outside }
 
--- the records of a session
+-- the records of a session, where that of a live transaction is as it began
 abbrev pub records_in : Session → List Record
 records_in s = s.records
+
+-- and where it has come as far as the transaction has
+abbrev pub records_now : Session → List Record
+records_now s = records_at s.records s.at
 
 -- what the table of refusals refuses is refused so
 abbrev pub StartRefuses : List Table → Session → Option Statement → Session → Turn → Type 0

@@ -3,14 +3,14 @@
 ghost use Rattle.std.specs.Prelude.{◌≡◌, ◌+◌, [], IfOk, IfErr, IfSome};
 ghost use Rattle.sk_session.specs.Moving as spec;
 ghost use Rattle.sk_session.specs.Moving.{Either, InsideTable, StartsInside, OutsideTable, StartsOutside, StartsAt, TakesAt};
-ghost use Rattle.sk_session.specs.EachTalk.{StartTalks, TakeTalks, LeaveTalks};
-ghost use Rattle.sk_session.specs.Starting.{Starts, Takes, Leaves, StartRefuses, StartKeeps, TakeKeeps, LeaveKeeps, fresh, records_in};
+ghost use Rattle.sk_session.specs.EachTalk.{StartTalks, TakeTalks, LeaveTalks, TalksNow};
+ghost use Rattle.sk_session.specs.Starting.{Starts, Takes, Leaves, StartRefuses, StartKeeps, TakeKeeps, LeaveKeeps, fresh, records_in, records_now};
 ghost use Rattle.sk_model.specs.declared.reply.ErrWord.TheVariants.{Memory};
 ghost use Rattle.std.specs.Option.{option_copied};
 
 use crate::beginning::{begins, judged_outside};
 use crate::committing::{ask_step, commits};
-use crate::ending::{give_up, starve};
+use crate::ending::{give_up, records_at, starve};
 use crate::live::{At, Job, Live, Moved};
 use crate::naming::{engine_kind, kind_begun};
 use crate::speaking::inside;
@@ -373,5 +373,17 @@ impl Session {
         ensures { result.now ≡ records_in self.now }
     {
         &self.records
+    }
+
+    /// The records of its transactions at a stop, in order. That of one that is live has its statements so far, and is open, or committed from its check on. It takes no memory.
+    #[tactic(auto, using(crate::proofs::Recorded::talks_now))]
+    pub fn into_records(self) -> RecordList
+        ensures value { result ≡ records_now self }
+
+        // Where the session waits for no answer, each record has its label and its talk.
+        ensures talks { TalksNow self result }
+    {
+        let Session { records, at, .. } = self;
+        records_at(records, at)
     }
 }
