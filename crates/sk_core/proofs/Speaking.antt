@@ -1,8 +1,6 @@
 -- How the calls of a record's statements go in one engine: none, or it is opened once and then read and written, or its opening is refused.
 use Rattle.std.specs.Prelude.{◌≡◌, ℕ, ◌⊎◌, List, [], ◌∷◌, ◌++◌, Option, Some, None, Bool, true, false, cond, ◌||◌}
 use Rattle.std.proofs.Common.{refl, sym, ap, subst, ◌∙◌, inl, inr, ⊎_elim}
-use Rattle.std.specs.List.{AllByRecursion}
-use Rattle.std.proofs.lemmas.Bool.{false≢true}
 use Rattle.std.proofs.lemmas.List.{append-nil, append_assoc}
 use Rattle.std.proofs.lemmas.List.Concat.{flat_map-append}
 use Rattle.sk_rows.specs.declared.value.Value.{Value}
@@ -118,7 +116,7 @@ refused_now : (tx : Label) (xs : List Entry) (o : Option ℕ) (s : ℕ) (f : Eng
 refused_now tx xs o s f e (Untouched is none) = record { snapshot = s; fault = f; is = ap (λ ys. ys ++ record { call = call.Open tx s; reply = answer.Fault f } ∷ []) is; none = or_none o ∙ e }
 refused_now tx xs o s f e (Working n rest is works some) = some_none e some
 
-asked_is : (e : EngineName) (k : EngineCall) (x : EngineReply) (c : OwnCall) → Asks e k c → c.entry.reply ≡ x → c ≡ own e k x
+pub asked_is : (e : EngineName) (k : EngineCall) (x : EngineReply) (c : OwnCall) → Asks e k c → c.entry.reply ≡ x → c ≡ own e k x
 asked_is e k x c a r = λ i. record { engine = a.engine i; entry = record { call = a.call i; reply = r i } }
 
 module _ (tx : Label) where

@@ -1,0 +1,50 @@
+-- What a record with its calls says of its transaction, where the catalog, the script and the registry say the rest.
+use Rattle.std.specs.Prelude.{◌≡◌, List, Bool, true, ◌&&◌, length}
+use Rattle.std.specs.List.{list_all, AllByRecursion}
+use Rattle.sk_rows.specs.declared.expr.Expr.{Expr}
+use Rattle.sk_rows.specs.declared.expr.Expr.TheOpen.{Expr-F}
+use Rattle.sk_rows.specs.declared.expr.Expr.TheFolds.{fold-Expr}
+use Rattle.sk_rows.specs.declared.statement.SetItem.{SetItem}
+use Rattle.sk_rows.specs.declared.statement.Statement.{Statement}
+use Rattle.sk_rows.specs.declared.statement.Statement.TheVariants as statement
+use Rattle.sk_rows.specs.declared.table.Table.{Table}
+use Rattle.sk_rows.specs.Catalog.{IsCatalog}
+use Rattle.sk_model.specs.declared.point.Point.{Point}
+use Rattle.sk_model.specs.declared.record.Record.{Record}
+use Rattle.sk_model.specs.declared.record.Said.{Said}
+use Rattle.sk_model.specs.Database.{Tables}
+use Rattle.sk_model.specs.EngineConditions.{is_short, are_short}
+use Rattle.sk_model.specs.RecordTalks.{Talks}
+use Rattle.sk_weave.specs.Reads.{PairIf}
+use Rattle.sk_core.specs.Traces.{Transaction, In}
+use Rattle.sk_core.specs.Recorded.{HasTalk}
+use Rattle.sk_core.specs.Joining.{Behaves}
+
+abbrev pub short_step : Expr-F Bool → Bool
+short_step (Expr-F.Lit v) = is_short v
+short_step (Expr-F.Col name) = true
+short_step (Expr-F.Not a) = a
+short_step (Expr-F.Two op a b) = a && b
+
+-- no text in the expression is too long for a row
+abbrev pub expr_is_short : Expr → Bool
+expr_is_short = fold-Expr Bool short_step
+
+-- no text that the statement may write is too long for a row
+abbrev pub texts_are_short : Statement → Bool
+texts_are_short (statement.Insert table values) = are_short values
+texts_are_short (statement.Update table sets e) = list_all (λ (s : SetItem). expr_is_short s.value) sets
+texts_are_short _ = true
+
+-- What the catalog, the script and the registry say of a record: one opening table for each of the catalog, statements as a script
+-- may have them, snapshots that are a pair of these points, and points of its own that are among them.
+pub record IsBacked (catalog : List Table) (rows : Tables) (points : List Point) (r : Record) : Type 0 where
+  pub tables : IsCatalog catalog
+  pub opening : length rows ≡ length catalog
+  pub texts : AllByRecursion (λ (s : Said). texts_are_short s.statement ≡ true) r.said
+  pub pair : PairIf points r.mem r.store
+  pub made : AllByRecursion (λ (q : Point). In q points) r.made
+
+-- A record whose calls are those of its statements and of its commit's steps shows all that its session has to say of it.
+abbrev pub TalksBehave : Type 0
+TalksBehave = (catalog : List Table) (rows : Tables) (points : List Point) (t : Transaction) (r : Record) → HasTalk t r → Talks catalog r t.talk → IsBacked catalog rows points r → Behaves catalog rows points t
