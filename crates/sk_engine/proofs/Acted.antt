@@ -2,6 +2,7 @@
 use Rattle.std.specs.Prelude.{◌≡◌, ℕ, List, [], ◌∷◌, ◌++◌, Option, Some, None, Bool, true, false, cond, ◌||◌}
 use Rattle.std.proofs.Common.{refl, sym, ap, ◌∙◌}
 use Rattle.std.proofs.lemmas.List.Folds.{list_any-append}
+use Rattle.std.proofs.Math.Bool.{or-false, or-true}
 use Rattle.sk_rows.specs.declared.value.Value.{Value}
 use Rattle.sk_model.specs.declared.label.Label.{Label}
 use Rattle.sk_model.specs.Database.{RowOf}
@@ -60,16 +61,8 @@ one_more a ys p chains t key =
 
     at : (d b : Bool) → is_row_id t key p ≡ d → is_among t key ys ≡ b
         → cond d (acted a (all_acted a ys chains p.table p.key)) (all_acted a ys chains t key) ≡ cond (is_among t key ys || d) (acted a (chains t key)) (chains t key)
-    at true b d e = ap (acted a) (here d) ∙ twice (is_among t key ys) ∙ ap (λ b. cond b (acted a (chains t key)) (chains t key)) (sym (or_true (is_among t key ys)))
-      where
-        or_true : (b : Bool) → (b || true) ≡ true
-        or_true true = refl
-        or_true false = refl
-    at false b d e = ap (λ b. cond b (acted a (chains t key)) (chains t key)) (sym (or_false (is_among t key ys)))
-      where
-        or_false : (b : Bool) → (b || false) ≡ b
-        or_false true = refl
-        or_false false = refl
+    at true b d e = ap (acted a) (here d) ∙ twice (is_among t key ys) ∙ ap (λ b. cond b (acted a (chains t key)) (chains t key)) (sym (or-true (is_among t key ys)))
+    at false b d e = ap (λ b. cond b (acted a (chains t key)) (chains t key)) (sym (or-false (is_among t key ys)))
 
 pub next_row_id : (a : Act) (ys : List RowId) (p : RowId) (chains : Chains) → with_chain (all_acted a ys chains) p (acted a (all_acted a ys chains p.table p.key)) ≡ all_acted a (ys ++ p ∷ []) chains
 next_row_id a ys p chains = λ i t key. one_more a ys p chains t key i

@@ -5,6 +5,7 @@ use Rattle.std.specs.List.{filter}
 use Rattle.std.proofs.lemmas.Bool.{cases_Bool, cases_lt, and_parts, and_from, cond-true, false≢true, lt-ltb, le-ltb, le-leb, leb-true}
 use Rattle.std.proofs.lemmas.Grind.{flat_map-append}
 use Rattle.std.proofs.lemmas.List.Elements.{filter-append}
+use Rattle.std.proofs.Math.Bool.{and-false}
 use Rattle.sk_rows.specs.declared.table.Table.{Table}
 use Rattle.sk_model.specs.declared.label.Label.{Label}
 use Rattle.sk_model.specs.declared.engine.EngineName.{EngineName}
@@ -87,17 +88,13 @@ rises_drop low (suc k) (x ∷ xs) r = rises_drop r.0 k xs r.3
 abbrev between : ℕ → ℕ → ℕ × Label → Bool
 between from to x = nat_lt from x.0 && nat_le x.0 to
 
-and_false : (b : Bool) → (b && false) ≡ false
-and_false true = refl
-and_false false = refl
-
 past_to : (a b : ℕ) → b < a → nat_le a b ≡ false
 past_to a b l = grind (arith, l)
 
 later_only : (p from to : ℕ) (x : ℕ × Label) → p ≤ from → (nat_lt p x.0 && between from to x) ≡ between from to x
 later_only p from to x le = ⊎_elim
     (λ (l : from < x.0). ap (λ b. b && between from to x) (lt-ltb p x.0 (omega arith)))
-    (λ (g : x.0 ≤ from). let off : nat_lt from x.0 ≡ false = le-ltb from x.0 g in rw off (and_false (nat_lt p x.0)))
+    (λ (g : x.0 ≤ from). let off : nat_lt from x.0 ≡ false = le-ltb from x.0 g in rw off (and-false (nat_lt p x.0)))
     (cases_lt from x.0)
 
 stamped_between : (from to : ℕ) (front asked back : List Used) → Each (λ (u : Used). u.n ≤ from) front → Each (λ (u : Used). from < u.n) asked → Each (λ (u : Used). u.n ≤ to) asked → Each (λ (u : Used). to < u.n) back
@@ -108,7 +105,7 @@ stamped_between from to front asked back f a b l =
     ∙ ap (λ xs. xs ++ (filter (between from to) (stamped_of asked) ++ filter (between from to) (stamped_of back)))
     (filter_none (between from to) (stamped_of front) (each_weaker _ _ (λ (x : ℕ × Label) (g : x.0 ≤ from). ap (λ b. b && nat_le x.0 to) (le-ltb from x.0 g)) (stamped_of front) (each_stamped (λ n. n ≤ from) front f)))
     ∙ ap (λ xs. filter (between from to) (stamped_of asked) ++ xs)
-    (filter_none (between from to) (stamped_of back) (each_weaker _ _ (λ (x : ℕ × Label) (g : to < x.0). ap (λ b. nat_lt from x.0 && b) (past_to x.0 to g) ∙ and_false (nat_lt from x.0)) (stamped_of back) (each_stamped (λ n. to < n) back l)))
+    (filter_none (between from to) (stamped_of back) (each_weaker _ _ (λ (x : ℕ × Label) (g : to < x.0). ap (λ b. nat_lt from x.0 && b) (past_to x.0 to g) ∙ and-false (nat_lt from x.0)) (stamped_of back) (each_stamped (λ n. to < n) back l)))
     ∙ end_none (filter (between from to) (stamped_of asked))
     ∙ filter_all (between from to) (stamped_of asked) (both (stamped_of asked) (each_stamped (λ n. from < n) asked a) (each_stamped (λ n. n ≤ to) asked b))
   where

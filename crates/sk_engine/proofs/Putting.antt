@@ -5,6 +5,7 @@ use Rattle.std.specs.Option.{option_map}
 use Rattle.std.specs.List.{filter, find}
 use Rattle.std.proofs.lemmas.Bool.{cases_Bool, cond-true, cond-false, false≢true, and_parts, and_from}
 use Rattle.std.specs.Ordering.{eq_by_cmp}
+use Rattle.std.proofs.Math.Bool.{or-false, or-true}
 use Rattle.sk_rows.specs.declared.value.Value.{Value}
 use Rattle.sk_rows.specs.Values.{value_cmp}
 use Rattle.sk_model.specs.declared.label.Label.{Label}
@@ -247,14 +248,6 @@ each_of t key (v ∷ vs) = go (is_of t key v) (is_live v.standing) refl (each_of
     go true false e i = i
     go false l e i = i
 
-or_true : (b : Bool) → (b || true) ≡ true
-or_true true = refl
-or_true false = refl
-
-or_false : (b : Bool) → (b || false) ≡ b
-or_false true = refl
-or_false false = refl
-
 floors : (o : Option Held) → option_map (λ k. state_by k.floor) o ≡ option_map (λ (x : Opened). state_by x.floor) (option_map timed o)
 floors None = refl
 floors (Some k) = refl
@@ -334,8 +327,8 @@ module _ (newest p : ℕ) (opening after : Label → Option Held) (chain then : 
 
       go : (b d s : Bool) → first ≡ b → is_row_id t key row_id ≡ d → same_label tx q ≡ s
           → is_among t key (wrote_by (cond b (cond s (noted row_id (opening tx)) (opening q)) (opening q))) ≡ is_by q (cond d (pushed (chain row_id.table row_id.key) tx row) (chain t key)).top
-      go true true true f d s = own ∙ ap (λ b. is_among t key (wrote_by (opening tx)) || b) d ∙ or_true (is_among t key (wrote_by (opening tx))) ∙ sym (flip true s)
-      go true false true f d s = own ∙ ap (λ b. is_among t key (wrote_by (opening tx)) || b) d ∙ or_false (is_among t key (wrote_by (opening tx))) ∙ h.wrote tx t key ∙ ap (λ x. is_by x (chain t key).top) (same_is tx q s)
+      go true true true f d s = own ∙ ap (λ b. is_among t key (wrote_by (opening tx)) || b) d ∙ or-true (is_among t key (wrote_by (opening tx))) ∙ sym (flip true s)
+      go true false true f d s = own ∙ ap (λ b. is_among t key (wrote_by (opening tx)) || b) d ∙ or-false (is_among t key (wrote_by (opening tx))) ∙ h.wrote tx t key ∙ ap (λ x. is_by x (chain t key).top) (same_is tx q s)
       go true true false f d s = h.wrote q t key ∙ ap (λ c. is_by q c.top) (same_chain d) ∙ was_by q ∙ ap (λ b. cond b false (same_label q tx)) f ∙ sym (flip false s)
       go true false false f d s = h.wrote q t key
       go false true s f d z = h.wrote q t key ∙ ap (λ c. is_by q c.top) (same_chain d) ∙ was_by q ∙ ap (λ b. cond b false (same_label q tx)) f

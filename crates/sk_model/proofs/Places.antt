@@ -5,13 +5,10 @@ use Rattle.std.specs.List.{list_any}
 use Rattle.std.proofs.lemmas.Bool.{cases_Bool, cond-true, cond-false, or_left, or_right, or_from}
 use Rattle.std.proofs.lemmas.List.{append_assoc, take_more, take_at, length-take-le}
 use Rattle.std.proofs.lemmas.List.Folds.{list_any-append}
+use Rattle.std.proofs.Math.Bool.{or-false}
 use Rattle.sk_model.specs.declared.commit.Commit.{Commit}
 use Rattle.sk_model.specs.Places.{is_wanted, place}
 use Rattle.sk_model.proofs.Lists.{Each}
-
-or_false : (b : Bool) → (b || false) ≡ b
-or_false true = refl
-or_false false = refl
 
 place_zero : (cs : List Commit) (m s : Option ℕ) → list_any (is_wanted m s) cs ≡ false → place cs m s ≡ 0
 place_zero [] m s e = refl
@@ -28,7 +25,7 @@ place_push (d ∷ cs) c m s =
     rw (any, t, last) (omega arith))
     (λ (f : is_wanted m s c ≡ false).
     let last : place (cs ++ c ∷ []) m s ≡ place cs m s = rw f at ih in
-    let any : list_any (is_wanted m s) (d ∷ cs ++ c ∷ []) ≡ list_any (is_wanted m s) (d ∷ cs) = list_any-append (is_wanted m s) (d ∷ cs) (c ∷ []) ∙ ap (λ b. list_any (is_wanted m s) (d ∷ cs) || b) (or_from (is_wanted m s c) false f refl) ∙ or_false (list_any (is_wanted m s) (d ∷ cs)) in
+    let any : list_any (is_wanted m s) (d ∷ cs ++ c ∷ []) ≡ list_any (is_wanted m s) (d ∷ cs) = list_any-append (is_wanted m s) (d ∷ cs) (c ∷ []) ∙ ap (λ b. list_any (is_wanted m s) (d ∷ cs) || b) (or_from (is_wanted m s c) false f refl) ∙ or-false (list_any (is_wanted m s) (d ∷ cs)) in
     rw (any, f, last) refl)
     (cases_Bool (is_wanted m s c))
 
