@@ -3,7 +3,6 @@ pub mod Moments
 -- bytes that a write leaves, whole, taken back or in part
 pub mod Bytes
 mod Undo
-mod Mixes
 -- the two devices in memory
 mod Histories
 mod Tears

@@ -1,41 +1,101 @@
 -- A tearing device goes on from one moment to the next.
-use Rattle.std.proofs.Common.{◌≡◌, inl, inr, ⊎_elim, ℕ, List, ◌∷◌, length, sym, ap, ◌∙◌, subst, arith}
+use Rattle.std.proofs.Common.{◌≡◌, inl, inr, ⊎_elim, ℕ, List, ◌∷◌, length, reverse, sym, ap, ◌∙◌, subst, arith}
 use Rattle.sk_device.specs.declared.change.Change.{Change}
 use Rattle.sk_device.specs.declared.change.Change.TheVariants.{Wrote, Synced}
-use Rattle.sk_device.specs.declared.change.Written.{Written}
 use Rattle.sk_device.specs.declared.tearing.TearingDevice.{TearingDevice}
-use Rattle.sk_device.specs.Disk.{Image, Torn, AfterStep, Steps, Looks}
-use Rattle.sk_device.specs.Changes.{image_after, Remains, Remained, counts_since}
-use Rattle.sk_device.specs.Tearing.{changes_made, tearing_disk}
-use Rattle.sk_device.proofs.Mixes.{written_torn}
+use Rattle.sk_device.specs.Disk.{Image, with_bytes, overwritten, Puts, Torn, AfterStep, Steps, Looks}
+use Rattle.sk_device.specs.Changes.{image_after, rewritten, Remains, Remained, Keeps, counts_since}
+use Rattle.sk_device.specs.Tearing.{base_of, changes_made, Tears, tearing_disk}
+use Rattle.sk_device.proofs.Bytes.{puts_with, torn_same}
+use Rattle.sk_device.proofs.Histories.{same_image}
 
 -- the same files, and changes that show the same
-pub kept : (now was : Image) (old new : List Change) → now ≡ was → image_after new ≡ image_after old → ((file : ℕ) → was file ≡ image_after old file) → (file : ℕ) → now file ≡ image_after new file
-kept now was old new same show is file = ap (λ (im : Image). im file) same ∙ is file ∙ ap (λ (im : Image). im file) (sym show)
+pub kept : (base now was : Image) (old new : List Change) → now ≡ was → image_after base new ≡ image_after base old → ((file : ℕ) → was file ≡ image_after base old file) → (file : ℕ) → now file ≡ image_after base new file
+kept base now was old new same show is file = ap (λ (im : Image). im file) same ∙ is file ∙ ap (λ (im : Image). im file) (sym show)
 
--- a write that was done
-pub steps_wrote : (m n : TearingDevice) (w : Written) (file at : ℕ) (bytes : List ℕ) → w.file ≡ file → w.at ≡ at → w.bytes.items ≡ bytes
-    → changes_made n ≡ Wrote w ∷ changes_made m → Steps tearing_disk (Torn file at (length bytes)) m n
-steps_wrote m n w file at bytes is_file is_at is_bytes more = record {
-  later = omega (arith, ap length more);
-  now = λ image left. after image (subst (λ (l : List Change). Remains l image) more left);
-  since = λ t image le left. ⊎_elim (λ now. inr (after image now)) (λ (_, past). inl past) (subst (λ (l : List Change). Remained t l image) more left);
-  keeps = λ t image le left. subst (λ (l : List Change). Remained t l image) (sym more) (inr (le, left));
+-- the files after a write
+pub shows_wrote : (base was now : Image) (old new : List Change) (file at k : ℕ) (bytes : List ℕ) → Keeps file at k bytes old new
+    → ((f : ℕ) → was f ≡ image_after base (reverse old) f) → Puts file (overwritten (was file) at bytes) was now → (f : ℕ) → now f ≡ image_after base (reverse new) f
+shows_wrote base was now old new file at k bytes keeps is puts f =
+    let w = keeps.write in
+    let same : with_bytes file at bytes was ≡ rewritten w was =
+    sym (ap (λ (k : ℕ). with_bytes k w.at w.bytes.items was) keeps.is_file ∙ ap (λ (a : ℕ). with_bytes file a w.bytes.items was) keeps.is_at ∙ ap (λ (l : List ℕ). with_bytes file at l was) keeps.is_bytes) in
+    let shown : rewritten w was ≡ image_after base (reverse new) = ap (rewritten w) (same_image was (image_after base (reverse old)) is) ∙ sym (ap (image_after base) keeps.pushed) in
+    puts_with file at bytes was now puts f ∙ ap (λ (im : Image). im f) (same ∙ shown)
+
+-- a write that was done, of which these bytes stand
+module _ (m n : TearingDevice) (file at k : ℕ) (bytes : List ℕ) (base : base_of n ≡ base_of m) (keeps : Keeps file at k bytes m.log.items n.log.items) where
+  was_left : (image : Image) → Remains (base_of n) (changes_made n) image → Remains (base_of m) (Wrote keeps.write ∷ changes_made m) image
+  was_left image left = subst (λ (b : Image). Remains b (Wrote keeps.write ∷ changes_made m) image) base (subst (λ (l : List Change). Remains (base_of n) l image) keeps.pushed left)
+
+  is_left : (image : Image) → Remains (base_of m) (Wrote keeps.write ∷ changes_made m) image → Remains (base_of n) (changes_made n) image
+  is_left image left = subst (λ (l : List Change). Remains (base_of n) l image) (sym keeps.pushed) (subst (λ (b : Image). Remains b (Wrote keeps.write ∷ changes_made m) image) (sym base) left)
+
+  torn_is : (was image : Image) → Torn keeps.write.file keeps.write.at keeps.write.size was image → Torn file at k was image
+  torn_is was image torn =
+      let one = subst (λ (f : ℕ). Torn f keeps.write.at keeps.write.size was image) keeps.is_file torn in
+      let two = subst (λ (a : ℕ). Torn file a keeps.write.size was image) keeps.is_at one in
+      subst (λ (s : ℕ). Torn file at s was image) keeps.is_size two
+
+  is_torn : (was image : Image) → Torn file at k was image → Torn keeps.write.file keeps.write.at keeps.write.size was image
+  is_torn was image torn =
+      let one = subst (λ (f : ℕ). Torn f at k was image) (sym keeps.is_file) torn in
+      let two = subst (λ (a : ℕ). Torn keeps.write.file a k was image) (sym keeps.is_at) one in
+      subst (λ (s : ℕ). Torn keeps.write.file keeps.write.at s was image) (sym keeps.is_size) two
+
+  after : (image : Image) → Remains (base_of m) (Wrote keeps.write ∷ changes_made m) image → AfterStep tearing_disk (Torn file at k) m image
+  after image (was, left, torn) = (was, left, torn_is was image torn)
+
+  pub tears_wrote : Tears tearing_disk file at k m n
+  tears_wrote was image left torn = is_left image (was, left, is_torn was image torn)
+
+  seen_is : image_after (base_of n) (changes_made n) ≡ rewritten keeps.write (image_after (base_of m) (changes_made m))
+  seen_is = ap (λ (l : List Change). image_after (base_of n) l) keeps.pushed ∙ ap (λ (b : Image). rewritten keeps.write (image_after b (changes_made m))) base
+
+  pub torn_wrote : Torn file at k (image_after (base_of m) (changes_made m)) (image_after (base_of n) (changes_made n))
+  torn_wrote =
+      let was = image_after (base_of m) (changes_made m) in
+      subst (λ (im : Image). Torn file at k was im) (sym seen_is) (torn_is was (rewritten keeps.write was) (keeps.write.torn was))
+
+  pub steps_wrote : Steps tearing_disk (Torn file at k) m n
+  steps_wrote = record {
+    later = omega (arith, ap length keeps.pushed);
+    now = λ image left. after image (was_left image left);
+    since = λ t image le left.
+        ⊎_elim (λ now. inr (after image now)) (λ (_, past). inl past)
+        (subst (λ (b : Image). Remained b t (Wrote keeps.write ∷ changes_made m) image) base (subst (λ (l : List Change). Remained (base_of n) t l image) keeps.pushed left));
+    keeps = λ t image le left.
+        subst (λ (l : List Change). Remained (base_of n) t l image) (sym keeps.pushed)
+        (subst (λ (b : Image). Remained b t (Wrote keeps.write ∷ changes_made m) image) (sym base) (inr (le, left)));
+  }
+
+-- a call that left everything as it was
+pub steps_left : (m n : TearingDevice) (file at k : ℕ) → base_of n ≡ base_of m → changes_made n ≡ changes_made m → Steps tearing_disk (Torn file at k) m n
+steps_left m n file at k base same = record {
+  later = omega (arith, ap length same);
+  now = λ image left. (image, subst (λ (b : Image). Remains b (changes_made m) image) base (subst (λ (l : List Change). Remains (base_of n) l image) same left), torn_same file at k image);
+  since = λ t image le left. inl (subst (λ (b : Image). Remained b t (changes_made m) image) base (subst (λ (l : List Change). Remained (base_of n) t l image) same left));
+  keeps = λ t image le left. subst (λ (l : List Change). Remained (base_of n) t l image) (sym same) (subst (λ (b : Image). Remained b t (changes_made m) image) (sym base) left);
 }
-  where
-    after : (image : Image) → Remains (Wrote w ∷ changes_made m) image → AfterStep tearing_disk (Torn file at (length bytes)) m image
-    after image (was, left, mix) =
-        let torn = written_torn w was image mix in
-        let one = subst (λ (k : ℕ). Torn k w.at (length w.bytes.items) was image) is_file torn in
-        let two = subst (λ (k : ℕ). Torn file k (length w.bytes.items) was image) is_at one in
-        (was, left, subst (λ (l : List ℕ). Torn file at (length l) was image) is_bytes two)
 
 -- a sync that was done
-pub looks_synced : (m n : TearingDevice) (file : ℕ) → changes_made n ≡ Synced file ∷ changes_made m → Looks tearing_disk m n
-looks_synced m n file more = record {
-  seen = ap image_after more;
-  later = omega (arith, ap length more);
-  now = λ image left. (subst (λ (l : List Change). Remains l image) more left).0;
-  since = λ t image le left. ⊎_elim (λ now. counts_since t (changes_made m) image now.0) (λ (_, past). past) (subst (λ (l : List Change). Remained t l image) more left);
-  keeps = λ t image le left. subst (λ (l : List Change). Remained t l image) (sym more) (inr (le, left));
-}
+module _ (m n : TearingDevice) (file : ℕ) (base : base_of n ≡ base_of m) (more : changes_made n ≡ Synced file ∷ changes_made m) where
+  synced_left : (image : Image) → Remains (base_of n) (changes_made n) image → Remains (base_of m) (Synced file ∷ changes_made m) image
+  synced_left image left = subst (λ (b : Image). Remains b (Synced file ∷ changes_made m) image) base (subst (λ (l : List Change). Remains (base_of n) l image) more left)
+
+  pub looks_synced : Looks tearing_disk m n
+  looks_synced = record {
+    seen = ap (λ (l : List Change). image_after (base_of n) l) more ∙ ap (λ (b : Image). image_after b (changes_made m)) base;
+    later = omega (arith, ap length more);
+    now = λ image left. (synced_left image left).0;
+    since = λ t image le left.
+        ⊎_elim (λ now. counts_since (base_of m) t (changes_made m) image now.0) (λ (_, past). past)
+        (subst (λ (b : Image). Remained b t (Synced file ∷ changes_made m) image) base (subst (λ (l : List Change). Remained (base_of n) t l image) more left));
+    keeps = λ t image le left.
+        subst (λ (l : List Change). Remained (base_of n) t l image) (sym more)
+        (subst (λ (b : Image). Remained b t (Synced file ∷ changes_made m) image) (sym base) (inr (le, left)));
+  }
+
+  pub keeps_synced : (image : Image) → Remains (base_of m) (changes_made m) image → image file ≡ image_after (base_of m) (changes_made m) file → Remains (base_of n) (changes_made n) image
+  keeps_synced image left settled =
+      subst (λ (l : List Change). Remains (base_of n) l image) (sym more) (subst (λ (b : Image). Remains b (Synced file ∷ changes_made m) image) (sym base) (left, settled))

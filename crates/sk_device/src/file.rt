@@ -16,13 +16,16 @@ use std::rt::Files;
 /// The files `f0` to `f7` of a directory, or those of another letter.
 ///
 /// Each call opens its file and closes it. A missing file is taken as empty, and made by a write. The
-/// directory is never made. Each error is a fault: of the file system, of kind `Interrupted` too, of
-/// a place past 2^63 - 1, and want of memory for the file's name.
+/// directory is never made; it is synced once by the first sync of a file that is there, since an
+/// earlier run may have made it, and once for each new file. Each error is a fault: of the file
+/// system, a read that was interrupted, a place past 2^63 - 1, and want of memory for the file's name.
 #[derive(Drop)]
 pub struct FileDevice<R: Files + AllocGlobal + Drop> {
     rt: R,
     dir: String,
     letter: u8,
+    // A file may be there of which the directory on the disk does not know yet.
+    unlisted: bool,
     faults: u64,
 }
 
@@ -37,6 +40,7 @@ impl<R: Files + AllocGlobal + Drop> FileDevice<R> {
             rt,
             dir,
             letter,
+            unlisted: true,
             faults: 0,
         })
     }
@@ -74,26 +78,48 @@ impl<R: Files + AllocGlobal + Drop> FileDevice<R> {
         fill(&mut opened, out)
     }
 
-    fn write_file(&self, file: u8, at: u64, bytes: &[u8]) -> io::Result<()> {
+    // The file, which is made where it is missing.
+    fn open_or_make(&mut self, file: u8) -> io::Result<R::File>
+        ensures { file_faults self.new ≡ file_faults self.old }
+    {
+        if let Some(opened) = self.open(file, OpenOptions::new().write(true))? {
+            return Ok(opened);
+        }
+        self.unlisted = true;
         let path = self.path(file)?;
-        let mut opened = OpenOptions::new()
+        OpenOptions::new()
             .write(true)
             .create(true)
-            .open(&self.rt, path.as_str())?;
+            .open(&self.rt, path.as_str())
+    }
+
+    fn write_file(&mut self, file: u8, at: u64, bytes: &[u8]) -> io::Result<()>
+        ensures { file_faults self.new ≡ file_faults self.old }
+    {
+        let mut opened = self.open_or_make(file)?;
         opened.seek(SeekFrom::Start(at))?;
         opened.write_all(bytes)
     }
 
     // A new file stands on the disk once its directory does too.
-    fn sync_file(&self, file: u8) -> io::Result<()> {
+    fn sync_file(&mut self, file: u8) -> io::Result<()>
+        ensures { file_faults self.new ≡ file_faults self.old }
+    {
         if let Some(opened) = self.open(file, OpenOptions::new().write(true))? {
             opened.sync_all()?;
-            let folder = OpenOptions::new()
-                .read(true)
-                .open(&self.rt, self.dir.as_str())?;
-            folder.sync_all()?;
+            if self.unlisted {
+                self.sync_directory()?;
+                self.unlisted = false;
+            }
         }
         Ok(())
+    }
+
+    fn sync_directory(&self) -> io::Result<()> {
+        let folder = OpenOptions::new()
+            .read(true)
+            .open(&self.rt, self.dir.as_str())?;
+        folder.sync_all()
     }
 }
 

@@ -7,11 +7,13 @@ mod faults;
 mod file;
 mod memory;
 mod stopping;
+mod tear;
 mod tearing;
 
 pub use device::{Device, write_synced};
 pub use file::FileDevice;
 pub use memory::MemDevice;
+pub use tear::Tear;
 pub use tearing::TearingDevice;
 
 #[cfg(test)]

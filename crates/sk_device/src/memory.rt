@@ -6,6 +6,7 @@ ghost use Rattle.std.specs.Prelude.{ℕ, length};
 ghost use Rattle.sk_outside.specs.Causes.{Rose};
 ghost use Rattle.sk_device.specs.Disk.{overwritten};
 ghost use Rattle.sk_device.specs.History.{image_of, Adds};
+ghost use Rattle.sk_device.specs.Memory.{memory_image};
 
 use crate::Device;
 use crate::faults::fail;
@@ -39,9 +40,9 @@ pub struct MemDevice {
 
 impl MemDevice {
     ghost use Rattle.std.specs.Prelude.{ℕ};
-    ghost use Rattle.sk_outside.specs.Calls.{made_of, fails_of};
+    ghost use Rattle.sk_outside.specs.Calls.{made_of, fails_of, next_fails};
     ghost use Rattle.sk_device.specs.Disk.{Puts};
-    ghost use Rattle.sk_device.specs.Memory.{memory_image, memory_disk, changes_of, looks_of, faults_of, starved_of, IsSure, CountsChange};
+    ghost use Rattle.sk_device.specs.Memory.{memory_disk, changes_of, looks_of, faults_of, starved_of, IsSure, CountsChange};
 
     /// Empty files. Each list numbers, from 1, the calls that fail: of `write` and `sync` together,
     /// and of `len` and `read` together.
@@ -131,18 +132,86 @@ impl MemDevice {
         self.starved
     }
 
-    /// Counts a write or a sync that found no memory before it began.
-    pub(crate) fn starve(&mut self) -> Failed
-        ensures counts { CountsChange self.old self.new }
-        ensures starved { Rose (starved_of self.old) (starved_of self.new) }
-        ensures later { faults_of self.old ≤ faults_of self.new }
-        ensures rose { Rose (faults_of self.old) (faults_of self.new) }
-        ensures same { memory_image self.new ≡ memory_image self.old }
+    /// The same files with the same bytes, in a device without failing calls.
+    pub(crate) fn copied(&self, alloc: Global) -> Result<Self, AllocError>
+        ensures same { IfOk result (λ copy. (file : ℕ) → memory_image copy file ≡ memory_image self.now file) }
     {
-        self.changes.next_fails();
+        let mut copy = MemDevice::new(alloc, Vec::new(alloc), Vec::new(alloc));
+        copy_files(alloc, &self.files, &mut copy)?;
+        Ok(copy)
+    }
+
+    /// Puts bytes in their place. It is no call of the device: no list fails it and it is not counted.
+    pub(crate) fn put(&mut self, file: u8, at: u64, bytes: &[u8]) -> Result<(), AllocError>
+        requires { file < 8 }
+        ensures ok { OnOk result (Adds file (overwritten (memory_image self.old file) at bytes.now) self.old.files self.new.files self.old.past.items self.new.past.items) }
+        ensures same { OnErr result ((other : ℕ) → memory_image self.new other ≡ memory_image self.old other) }
+        ensures past { OnErr result (self.new.past.items ≡ self.old.past.items) }
+        ensures changes { changes_of self.new ≡ changes_of self.old }
+        ensures looks { looks_of self.new ≡ looks_of self.old }
+        ensures faults { faults_of self.new ≡ faults_of self.old }
+        ensures starved { starved_of self.new ≡ starved_of self.old }
+    {
+        change(
+            self.alloc,
+            &mut self.files,
+            &mut self.past,
+            file,
+            at as usize,
+            bytes,
+        )
+    }
+
+    /// Counts a write or a sync, and says whether it is to fail.
+    pub(crate) fn next_change_fails(&mut self) -> bool
+        ensures answer { result ≡ next_fails (changes_of self.old) }
+        ensures counts { CountsChange self.old self.new }
+        ensures same { memory_image self.new ≡ memory_image self.old }
+        ensures past { self.new.past.items ≡ self.old.past.items }
+        ensures faults { faults_of self.new ≡ faults_of self.old }
+        ensures starved { starved_of self.new ≡ starved_of self.old }
+    {
+        self.changes.next_fails()
+    }
+
+    /// Counts a fault.
+    pub(crate) fn fault(&mut self) -> Failed
+        ensures rose { Rose (faults_of self.old) (faults_of self.new) }
+        ensures later { faults_of self.old ≤ faults_of self.new }
+        ensures changes { changes_of self.new ≡ changes_of self.old }
+        ensures looks { looks_of self.new ≡ looks_of self.old }
+        ensures starved { starved_of self.new ≡ starved_of self.old }
+        ensures same { memory_image self.new ≡ memory_image self.old }
+        ensures past { self.new.past.items ≡ self.old.past.items }
+    {
+        fail(&mut self.faults)
+    }
+
+    /// Counts a fault, for want of memory.
+    pub(crate) fn starve(&mut self) -> Failed
+        ensures rose { Rose (faults_of self.old) (faults_of self.new) }
+        ensures later { faults_of self.old ≤ faults_of self.new }
+        ensures changes { changes_of self.new ≡ changes_of self.old }
+        ensures looks { looks_of self.new ≡ looks_of self.old }
+        ensures starved { Rose (starved_of self.old) (starved_of self.new) }
+        ensures same { memory_image self.new ≡ memory_image self.old }
+        ensures past { self.new.past.items ≡ self.old.past.items }
+    {
         self.starved = self.starved.saturating_add(1);
         fail(&mut self.faults)
     }
+}
+
+// Copies files into a device that has none.
+fn copy_files(alloc: Global, files: &[Vec<u8>], copy: &mut MemDevice) -> Result<(), AllocError>
+    requires few { length files.now ≤ 8 }
+    requires empty { (file : ℕ) → memory_image copy.old file ≡ [] }
+    ensures { OnOk result ((file : ℕ) → memory_image copy.new file ≡ image_of files.now file) }
+{
+    for file in 0..files.len() {
+        copy.set(file as u8, files[file].as_slice().to_vec(alloc)?);
+    }
+    Ok(())
 }
 
 // Writes over what is there, with zeros in a gap.
@@ -225,7 +294,7 @@ impl Device for MemDevice {
     ghost use Rattle.sk_outside.specs.Calls.{next_fails};
     ghost use Rattle.sk_device.specs.Disk.{Torn, Looks, Steps};
     ghost use Rattle.sk_device.specs.Calls.{Measures, Gives, Writes, Settles};
-    ghost use Rattle.sk_device.specs.Memory.{memory_image, memory_disk, changes_of, looks_of, faults_of, starved_of, CountsLook, CountsChange};
+    ghost use Rattle.sk_device.specs.Memory.{memory_disk, changes_of, looks_of, faults_of, starved_of, CountsLook, CountsChange};
 
     ghost disk = { memory_disk };
 
@@ -277,15 +346,7 @@ impl Device for MemDevice {
         if self.changes.next_fails() {
             return Err(fail(&mut self.faults));
         }
-        let done = change(
-            self.alloc,
-            &mut self.files,
-            &mut self.past,
-            file,
-            at as usize,
-            bytes,
-        );
-        match done {
+        match self.put(file, at, bytes) {
             Ok(()) => Ok(()),
             Err(_) => {
                 self.starved = self.starved.saturating_add(1);

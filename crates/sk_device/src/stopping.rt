@@ -1,28 +1,30 @@
 //! What a stop leaves of writes and syncs that were done.
-ghost use Rattle.std.specs.Prelude.{◌≡◌, ℕ, reverse, take, drop, slice_index, IfOk, OnOk};
+ghost use Rattle.std.specs.Prelude.{◌≡◌, ℕ, reverse, drop, IfOk, OnOk};
 ghost use Rattle.std.specs.List.{list_any};
-ghost use Rattle.sk_device.specs.Changes.{blank, syncs, rewritten, front_rewritten, left_by, Remains};
+ghost use Rattle.sk_device.specs.Changes.{syncs, rewritten, cut_short, first_tear, left_by, Remains};
 ghost use Rattle.sk_device.specs.Memory.{memory_image, IsSure};
 
+use crate::MemDevice;
 use crate::change::{Change, Written};
-use crate::{Device, MemDevice};
+use crate::tear::{Tear, torn};
 use std::alloc::{AllocError, Global};
 
 /// The files after a stop, in a device without failing calls.
 ///
-/// A write that is followed by a sync of its file stands whole. Of each other one, in order, as many
-/// of its first bytes stand as the next choice says.
+/// The changes are made again in the files of `base`. A write that is followed by a sync of its file
+/// stands whole. Each other one, in order, is cut short by the next tear.
 pub(crate) fn remains(
     alloc: Global,
+    base: MemDevice,
     log: &[Change],
-    choices: &[u64],
+    tears: &[Tear],
 ) -> Result<MemDevice, AllocError>
-    ensures left { IfOk result (λ device. Remains (reverse log.now) (memory_image device)) }
-    ensures chosen { IfOk result (λ device. memory_image device ≡ left_by log.now choices.now blank) }
+    ensures left { IfOk result (λ device. Remains (memory_image base) (reverse log.now) (memory_image device)) }
+    ensures chosen { IfOk result (λ device. memory_image device ≡ left_by log.now tears.now (memory_image base)) }
     ensures sure { IfOk result (λ device. IsSure device) }
 {
-    let mut device = MemDevice::new(alloc, Vec::new(alloc), Vec::new(alloc));
-    let mut open = choices;
+    let mut device = base;
+    let mut open = tears;
     let mut done = 0;
     'changes: while done < log.len() {
         match &log[done] {
@@ -30,7 +32,7 @@ pub(crate) fn remains(
                 if is_synced(&log[done + 1..], write.file) {
                     redo(&mut device, write)?;
                 } else {
-                    redo_front(&mut device, write, first(open))?;
+                    redo_torn(alloc, &mut device, write, &first(open))?;
                     open = rest(open);
                 }
             }
@@ -48,23 +50,26 @@ fn is_synced(changes: &[Change], file: u8) -> bool
     changes.iter().any(|change| matches!(change, Change::Synced(synced) if *synced == file))
 }
 
-// The first number, or 0.
-fn first(choices: &[u64]) -> u64
-    ensures { result ≡ slice_index choices.now 0 }
+// The first tear, or one that leaves nothing.
+fn first(tears: &[Tear]) -> Tear
+    ensures { result ≡ first_tear tears.now }
 {
-    match choices.first() {
-        Some(choice) => *choice,
-        None => 0,
+    match tears {
+        [tear, ..] => *tear,
+        [] => Tear {
+            stands: 0,
+            filler: None,
+        },
     }
 }
 
-// What is behind the first number.
-fn rest(choices: &[u64]) -> &[u64]
-    ensures { result.now ≡ drop 1 choices.now }
+// What is behind the first tear.
+fn rest(tears: &[Tear]) -> &[Tear]
+    ensures { result.now ≡ drop 1 tears.now }
 {
-    match choices.split_first() {
+    match tears.split_first() {
         Some((_, rest)) => rest,
-        None => choices,
+        None => tears,
     }
 }
 
@@ -72,33 +77,18 @@ fn rest(choices: &[u64]) -> &[u64]
 fn redo(device: &mut MemDevice, write: &Written) -> Result<(), AllocError>
     ensures { OnOk result ((file : ℕ) → memory_image device.new file ≡ rewritten write.now (memory_image device.old) file) }
 {
-    match device.write(write.file, write.at, &write.bytes) {
-        Ok(()) => Ok(()),
-        Err(_) => Err(AllocError),
-    }
+    device.put(write.file, write.at, &write.bytes)
 }
 
-// The first `count` bytes, or all of them.
-fn front_of(bytes: &[u8], count: u64) -> &[u8]
-    ensures { result.now ≡ take count bytes.now }
+// Makes a write again, cut short.
+fn redo_torn(
+    alloc: Global,
+    device: &mut MemDevice,
+    write: &Written,
+    tear: &Tear,
+) -> Result<(), AllocError>
+    ensures { OnOk result ((file : ℕ) → memory_image device.new file ≡ cut_short write.now tear.now (memory_image device.old) file) }
 {
-    if count < bytes.len() as u64 {
-        &bytes[..count as usize]
-    } else {
-        bytes
-    }
-}
-
-// Makes a write of the first `count` bytes of this one again, or none where there are none.
-fn redo_front(device: &mut MemDevice, write: &Written, count: u64) -> Result<(), AllocError>
-    ensures { OnOk result ((file : ℕ) → memory_image device.new file ≡ front_rewritten write.now count (memory_image device.old) file) }
-{
-    let front = front_of(write.bytes.as_slice(), count);
-    if front.is_empty() {
-        return Ok(());
-    }
-    match device.write(write.file, write.at, front) {
-        Ok(()) => Ok(()),
-        Err(_) => Err(AllocError),
-    }
+    let bytes = torn(alloc, tear, &write.bytes)?;
+    device.put(write.file, write.at, &bytes)
 }

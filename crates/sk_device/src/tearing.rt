@@ -1,10 +1,12 @@
 //! Files in memory, of which a stop may leave the writes since the last syncs torn.
-ghost use Rattle.std.specs.Prelude.{◌≡◌, ◌∷◌, ◌+◌, ◌≤◌, ◌<◌, ℕ, reverse, length, vec_len, vec_capacity, IfOk, OnOk};
-ghost use Rattle.sk_device.specs.Changes.{image_after, left_by, blank};
-ghost use Rattle.sk_device.specs.Memory.{memory_image};
+ghost use Rattle.std.specs.Prelude.{◌≡◌, ◌∷◌, ◌+◌, ◌≤◌, ◌<◌, ℕ, reverse, length, vec_len, vec_capacity, IfOk, OnOk, OnErr, if◌then◌else◌};
+ghost use Rattle.sk_device.specs.Disk.{Puts, overwritten};
+ghost use Rattle.sk_device.specs.Changes.{image_after, left_by, standing, Keeps};
+ghost use Rattle.sk_device.specs.Memory.{memory_image, changes_of, looks_of, faults_of, starved_of};
 
 use crate::change::{Change, Written};
 use crate::stopping::remains;
+use crate::tear::{Tear, torn};
 use crate::{Device, MemDevice};
 use sk_outside::Failed;
 use std::alloc::{AllocError, Global};
@@ -12,41 +14,40 @@ use std::alloc::{AllocError, Global};
 /// A device in memory, of which everything is told, and of which a stop may leave torn writes.
 ///
 /// A call fails exactly where a list has its number, or where it found no memory and `starved` rose.
-/// A failing write leaves the old bytes. Of each write since its file's last sync a stop may leave
-/// any mix of the old bytes and the new.
+/// Of each write since its file's last sync a stop may leave any bytes in its range and past the old
+/// end. So does a write that a list fails, and there a read gives what the device's tear leaves.
 #[derive(Drop)]
 pub struct TearingDevice {
     alloc: Global,
+    base: MemDevice,
     memory: MemDevice,
+    tear: Tear,
     log: Vec<Change>,
-    ghost same: { (file : ℕ) → memory_image memory file ≡ image_after (reverse log.items) file },
+    ghost same: { (file : ℕ) → memory_image memory file ≡ image_after (memory_image base) (reverse log.items) file },
 }
 
 impl TearingDevice {
-    ghost use Rattle.std.specs.Prelude.{[]};
-    ghost use Rattle.sk_outside.specs.Calls.{made_of, fails_of};
-    ghost use Rattle.sk_device.specs.Memory.{changes_of, looks_of, faults_of, starved_of, IsSure};
+    ghost use Rattle.sk_device.specs.Memory.{IsSure};
     ghost use Rattle.sk_device.specs.Disk.{IsSettled};
-    ghost use Rattle.sk_device.specs.Tearing.{log_of, memory_of, tearing_disk};
+    ghost use Rattle.sk_device.specs.Tearing.{base_of, log_of, memory_of, tear_of, tearing_disk};
 
-    /// Empty files. Each list numbers, from 1, the calls that fail: of `write` and `sync` together,
-    /// and of `len` and `read` together.
-    pub fn new(alloc: Global, changes: Vec<u64>, looks: Vec<u64>) -> Self
-        ensures empty { (file : ℕ) → (tearing_disk).seen result file ≡ [] }
-        ensures settled { (file : ℕ) → IsSettled tearing_disk result file }
-        ensures anew { (tearing_disk).moment result ≡ 0 }
-        ensures changes { fails_of (changes_of (memory_of result)) ≡ changes.items }
-        ensures looks { fails_of (looks_of (memory_of result)) ≡ looks.items }
-        ensures changed { made_of (changes_of (memory_of result)) ≡ 0 }
-        ensures looked { made_of (looks_of (memory_of result)) ≡ 0 }
-        ensures faults { faults_of (memory_of result) ≡ 0 }
-        ensures starved { starved_of (memory_of result) ≡ 0 }
+    /// The files and the failing calls of this device. What stands in the files is settled.
+    ///
+    /// `tear` is what a write that a list fails leaves.
+    pub fn new(alloc: Global, memory: MemDevice, tear: Tear) -> Result<Self, AllocError>
+        ensures seen { IfOk result (λ device. (file : ℕ) → (tearing_disk).seen device file ≡ memory_image memory file) }
+        ensures settled { IfOk result (λ device. (file : ℕ) → IsSettled tearing_disk device file) }
+        ensures anew { IfOk result (λ device. (tearing_disk).moment device ≡ 0) }
+        ensures calls { IfOk result (λ device. memory_of device ≡ memory) }
+        ensures tear { IfOk result (λ device. tear_of device ≡ tear) }
     {
-        TearingDevice {
+        Ok(TearingDevice {
             alloc,
-            memory: MemDevice::new(alloc, changes, looks),
+            base: memory.copied(alloc)?,
+            memory,
+            tear,
             log: Vec::new(alloc),
-        }
+        })
     }
 
     /// What stands in a file. It is no call of the device: it never fails and is not counted.
@@ -59,20 +60,21 @@ impl TearingDevice {
 
     /// What a stop left, in a device in memory without failing calls.
     ///
-    /// `choices` has a number for each write since its file's last sync, in the order in which they
-    /// were made: how many of its first bytes stand. A missing number is 0, and one past the write's
-    /// length stands for all of it. Where no byte of a write stands, its gap is not there either.
-    pub fn stopped(self, choices: &[u64]) -> Result<MemDevice, AllocError>
+    /// Each write since its file's last sync is cut short by the next of `tears`, in the order in which
+    /// they were made. Where there is no next one, nothing of the write stands.
+    pub fn stopped(self, tears: &[Tear]) -> Result<MemDevice, AllocError>
         ensures left { IfOk result (λ device. (tearing_disk).may_leave self (memory_image device)) }
-        ensures chosen { IfOk result (λ device. memory_image device ≡ left_by (log_of self) choices.now blank) }
+        ensures chosen { IfOk result (λ device. memory_image device ≡ left_by (log_of self) tears.now (base_of self)) }
         ensures sure { IfOk result (λ device. IsSure device) }
     {
         let TearingDevice {
             alloc,
+            base,
             memory: _,
+            tear: _,
             log,
         } = self;
-        remains(alloc, &log, choices)
+        remains(alloc, base, &log, tears)
     }
 
     /// How many calls failed since they found no memory. It stays at the greatest `u64`.
@@ -83,38 +85,105 @@ impl TearingDevice {
     }
 }
 
+// What is to stand of these bytes: all of them, or what the tear leaves.
+fn to_stand(alloc: Global, bytes: &[u8], cut: bool, tear: &Tear) -> Result<Vec<u8>, AllocError>
+    ensures items { IfOk result (λ left. left.items ≡ (if cut then standing tear.now bytes.now else bytes.now)) }
+    ensures no_longer { IfOk result (λ left. length left.items ≤ length bytes.now) }
+{
+    if cut {
+        torn(alloc, tear, bytes)
+    } else {
+        bytes.to_vec(alloc)
+    }
+}
+
 // A write to be kept, and room for it.
 fn prepared(
-    alloc: Global,
     log: &mut Vec<Change>,
     file: u8,
     at: u64,
-    bytes: &[u8],
+    size: usize,
+    bytes: Vec<u8>,
 ) -> Result<Written, AllocError>
-    requires { file < 8 }
+    requires file { file < 8 }
+    requires fits { length bytes.items ≤ size }
     ensures log { log.new.items ≡ log.old.items }
     ensures room { OnOk result (length log.new.items + 1 ≤ vec_capacity log.new) }
     ensures file { IfOk result (λ w. w.file ≡ file) }
     ensures at { IfOk result (λ w. w.at ≡ at) }
-    ensures bytes { IfOk result (λ w. w.bytes.items ≡ bytes.now) }
+    ensures size { IfOk result (λ w. w.size ≡ size) }
+    ensures bytes { IfOk result (λ w. w.bytes.items ≡ bytes.items) }
 {
     log.reserve(1)?;
     Ok(Written {
         file,
         at,
-        bytes: bytes.to_vec(alloc)?,
+        size,
+        bytes,
     })
 }
 
+// Makes a write of `size` bytes, of which these stand, and keeps it.
+fn put(
+    memory: &mut MemDevice,
+    log: &mut Vec<Change>,
+    file: u8,
+    at: u64,
+    size: usize,
+    bytes: Vec<u8>,
+) -> Result<(), AllocError>
+    requires file { file < 8 }
+    requires fits { length bytes.items ≤ size }
+    ensures puts { OnOk result (Puts file (overwritten (memory_image memory.old file) at bytes.items) (memory_image memory.old) (memory_image memory.new)) }
+    ensures keeps { OnOk result (Keeps file at size bytes.items log.old.items log.new.items) }
+    ensures same { OnErr result ((other : ℕ) → memory_image memory.new other ≡ memory_image memory.old other) }
+    ensures log { OnErr result (log.new.items ≡ log.old.items) }
+    ensures changes { changes_of memory.new ≡ changes_of memory.old }
+    ensures looks { looks_of memory.new ≡ looks_of memory.old }
+    ensures faults { faults_of memory.new ≡ faults_of memory.old }
+    ensures starved { starved_of memory.new ≡ starved_of memory.old }
+{
+    let write = prepared(log, file, at, size, bytes)?;
+    memory.put(file, at, &write.bytes)?;
+    keep(log, Change::Wrote(write));
+    Ok(())
+}
+
+// Makes a write, or what a tear leaves of it, and keeps it.
+fn put_down(
+    alloc: Global,
+    memory: &mut MemDevice,
+    log: &mut Vec<Change>,
+    file: u8,
+    at: u64,
+    bytes: &[u8],
+    cut: bool,
+    tear: &Tear,
+) -> Result<(), AllocError>
+    requires file { file < 8 }
+    ensures puts { OnOk result (Puts file (overwritten (memory_image memory.old file) at (if cut then standing tear.now bytes.now else bytes.now)) (memory_image memory.old) (memory_image memory.new)) }
+    ensures keeps { OnOk result (Keeps file at (length bytes.now) (if cut then standing tear.now bytes.now else bytes.now) log.old.items log.new.items) }
+    ensures same { OnErr result ((other : ℕ) → memory_image memory.new other ≡ memory_image memory.old other) }
+    ensures log { OnErr result (log.new.items ≡ log.old.items) }
+    ensures changes { changes_of memory.new ≡ changes_of memory.old }
+    ensures looks { looks_of memory.new ≡ looks_of memory.old }
+    ensures faults { faults_of memory.new ≡ faults_of memory.old }
+    ensures starved { starved_of memory.new ≡ starved_of memory.old }
+{
+    let size = bytes.len();
+    let stands = to_stand(alloc, bytes, cut, tear)?;
+    put(memory, log, file, at, size, stands)
+}
+
 impl Device for TearingDevice {
-    ghost use Rattle.std.specs.Prelude.{◌⊎◌, ◌↔◌, OnErr, IsErr, IsTrue};
+    ghost use Rattle.std.specs.Prelude.{◌⊎◌, ◌↔◌, IsErr, IsTrue};
     ghost use Rattle.std.specs.Io.{ReadsAtMost};
     ghost use Rattle.sk_outside.specs.Causes.{HasCause, Rose};
     ghost use Rattle.sk_outside.specs.Calls.{next_fails};
-    ghost use Rattle.sk_device.specs.Disk.{Torn, Looks, Steps};
+    ghost use Rattle.sk_device.specs.Disk.{Image, Torn, Looks, Steps};
     ghost use Rattle.sk_device.specs.Calls.{Measures, Gives, Writes, Settles};
-    ghost use Rattle.sk_device.specs.Memory.{changes_of, looks_of, faults_of, starved_of, CountsLook, CountsChange};
-    ghost use Rattle.sk_device.specs.Tearing.{memory_of, tearing_disk};
+    ghost use Rattle.sk_device.specs.Memory.{CountsLook, CountsChange};
+    ghost use Rattle.sk_device.specs.Tearing.{Tears, memory_of, tear_of, tearing_disk};
 
     ghost disk = { tearing_disk };
 
@@ -128,6 +197,8 @@ impl Device for TearingDevice {
         ensures exact { IsErr result ↔ IsTrue (next_fails (looks_of (memory_of self.old))) }
         ensures counts { CountsLook (memory_of self.old) (memory_of self.new) }
         ensures fed { starved_of (memory_of self.new) ≡ starved_of (memory_of self.old) }
+        ensures keeps { (image : Image) → (tearing_disk).may_leave self.old image → (tearing_disk).may_leave self.new image }
+        ensures tear { tear_of self.new ≡ tear_of self.old }
     {
         self.memory.len(file)
     }
@@ -141,6 +212,8 @@ impl Device for TearingDevice {
         ensures exact { IsErr result ↔ IsTrue (next_fails (looks_of (memory_of self.old))) }
         ensures counts { CountsLook (memory_of self.old) (memory_of self.new) }
         ensures fed { starved_of (memory_of self.new) ≡ starved_of (memory_of self.old) }
+        ensures keeps { (image : Image) → (tearing_disk).may_leave self.old image → (tearing_disk).may_leave self.new image }
+        ensures tear { tear_of self.new ≡ tear_of self.old }
     {
         self.memory.read(file, at, out)
     }
@@ -156,14 +229,27 @@ impl Device for TearingDevice {
             ⊎ Rose (starved_of (memory_of self.old)) (starved_of (memory_of self.new))) }
         ensures fed { OnOk result (starved_of (memory_of self.new) ≡ starved_of (memory_of self.old)) }
         ensures counts { CountsChange (memory_of self.old) (memory_of self.new) }
-        ensures same { OnErr result ((tearing_disk).seen self.new ≡ (tearing_disk).seen self.old) }
+        // Until a sync, any bytes may stand in the range and past the old end; after a failing write too.
+        ensures tears { Rose (starved_of (memory_of self.old)) (starved_of (memory_of self.new))
+            ⊎ Tears tearing_disk file at (length bytes.now) self.old self.new }
+        ensures cut { OnErr result (Rose (starved_of (memory_of self.old)) (starved_of (memory_of self.new))
+            ⊎ Puts file (overwritten ((tearing_disk).seen self.old file) at (standing (tear_of self.old) bytes.now)) ((tearing_disk).seen self.old) ((tearing_disk).seen self.new)) }
+        ensures tear { tear_of self.new ≡ tear_of self.old }
     {
-        match prepared(self.alloc, &mut self.log, file, at, bytes) {
-            Ok(write) => {
-                self.memory.write(file, at, bytes)?;
-                keep(&mut self.log, Change::Wrote(write));
-                Ok(())
-            }
+        let cut = self.memory.next_change_fails();
+        let done = put_down(
+            self.alloc,
+            &mut self.memory,
+            &mut self.log,
+            file,
+            at,
+            bytes,
+            cut,
+            &self.tear,
+        );
+        match done {
+            Ok(()) if cut => Err(self.memory.fault()),
+            Ok(()) => Ok(()),
             Err(_) => Err(self.memory.starve()),
         }
     }
@@ -178,10 +264,15 @@ impl Device for TearingDevice {
             ⊎ Rose (starved_of (memory_of self.old)) (starved_of (memory_of self.new))) }
         ensures fed { OnOk result (starved_of (memory_of self.new) ≡ starved_of (memory_of self.old)) }
         ensures counts { CountsChange (memory_of self.old) (memory_of self.new) }
+        // It settles its file and nothing else.
+        ensures keeps { (image : Image) → (tearing_disk).may_leave self.old image → image file ≡ (tearing_disk).seen self.old file → (tearing_disk).may_leave self.new image }
+        ensures tear { tear_of self.new ≡ tear_of self.old }
     {
+        if self.memory.next_change_fails() {
+            return Err(self.memory.fault());
+        }
         match self.log.reserve(1) {
             Ok(()) => {
-                self.memory.sync(file)?;
                 keep(&mut self.log, Change::Synced(file));
                 Ok(())
             }

@@ -39,27 +39,35 @@ fn a_listed_call_fails(rt: HostRuntime) -> Result<(), Fail> {
     Ok(())
 }
 
-// Two writes that no sync follows: over bytes that are settled, and past the end of an empty file.
+fn tear(stands: u64, filler: Option<u8>) -> Tear {
+    Tear { stands, filler }
+}
+
+// A device whose file 1 holds `abcd`, with two writes that no sync follows: over these bytes and past them.
 fn two_unsynced(alloc: Global, changes: &[u64]) -> Result<TearingDevice, Fail> {
-    let mut device = TearingDevice::new(alloc, changes.to_vec(alloc)?, Vec::new(alloc));
-    write_synced(&mut device, 1, 0, b"abcd")?;
+    let mut files = memory(alloc, changes, &[])?;
+    files.set(1, b"abcd".to_vec(alloc)?);
+    let mut device = TearingDevice::new(alloc, files, tear(1, Some(b'?')))?;
     device.write(1, 0, b"WXYZ")?;
-    device.write(2, 3, b"gap")?;
+    device.write(2, 0, b"new")?;
     Ok(device)
 }
 
 #[test]
-fn a_stop_leaves_old_or_new_or_mixed_bytes(rt: HostRuntime) -> Result<(), Fail> {
+fn a_stop_leaves_old_or_new_or_any_bytes(rt: HostRuntime) -> Result<(), Fail> {
     let alloc = rt.alloc();
     let old = two_unsynced(alloc, &[])?.stopped(&[])?;
     assert_eq!(rt; old.bytes(1), b"abcd".as_slice());
     assert_eq!(rt; old.bytes(2), b"".as_slice());
-    let mixed = two_unsynced(alloc, &[])?.stopped(&[2, 1])?;
-    assert_eq!(rt; mixed.bytes(1), b"WXcd".as_slice());
-    assert_eq!(rt; mixed.bytes(2), b"\0\0\0g".as_slice());
-    let new = two_unsynced(alloc, &[])?.stopped(&[4, 9])?;
-    assert_eq!(rt; new.bytes(1), b"WXYZ".as_slice());
-    assert_eq!(rt; new.bytes(2), b"\0\0\0gap".as_slice());
+    let short = two_unsynced(alloc, &[])?.stopped(&[tear(2, None), tear(1, None)])?;
+    assert_eq!(rt; short.bytes(1), b"WXcd".as_slice());
+    assert_eq!(rt; short.bytes(2), b"n".as_slice());
+    let filled = two_unsynced(alloc, &[])?.stopped(&[tear(2, Some(b'?')), tear(0, Some(0))])?;
+    assert_eq!(rt; filled.bytes(1), b"WX??".as_slice());
+    assert_eq!(rt; filled.bytes(2), b"\0\0\0".as_slice());
+    let whole = two_unsynced(alloc, &[])?.stopped(&[tear(4, None), tear(9, Some(b'?'))])?;
+    assert_eq!(rt; whole.bytes(1), b"WXYZ".as_slice());
+    assert_eq!(rt; whole.bytes(2), b"new".as_slice());
     Ok(())
 }
 
@@ -68,14 +76,29 @@ fn a_sync_settles_its_file_alone(rt: HostRuntime) -> Result<(), Fail> {
     let alloc = rt.alloc();
     let mut device = two_unsynced(alloc, &[])?;
     device.sync(1)?;
-    assert_eq!(rt; device.bytes(2), b"\0\0\0gap".as_slice());
-    let settled = device.stopped(&[1])?;
+    assert_eq!(rt; device.bytes(2), b"new".as_slice());
+    let settled = device.stopped(&[tear(1, None)])?;
     assert_eq!(rt; settled.bytes(1), b"WXYZ".as_slice());
-    assert_eq!(rt; settled.bytes(2), b"\0\0\0g".as_slice());
-    let mut failing = two_unsynced(alloc, &[5])?;
+    assert_eq!(rt; settled.bytes(2), b"n".as_slice());
+    let mut failing = two_unsynced(alloc, &[3])?;
     assert!(rt; failing.sync(1).is_err());
     assert_eq!(rt; failing.starved(), 0);
-    assert_eq!(rt; failing.stopped(&[1])?.bytes(1), b"Wbcd".as_slice());
+    assert_eq!(rt;
+        failing.stopped(&[tear(1, None)])?.bytes(1),
+        b"Wbcd".as_slice()
+    );
+    Ok(())
+}
+
+#[test]
+fn a_failing_write_tears(rt: HostRuntime) -> Result<(), Fail> {
+    let alloc = rt.alloc();
+    let mut device = two_unsynced(alloc, &[3])?;
+    assert!(rt; device.write(1, 2, b"123").is_err());
+    assert_eq!(rt; device.starved(), 0);
+    assert_eq!(rt; device.bytes(1), b"WX1??".as_slice());
+    let tears = [tear(0, None), tear(0, None), tear(2, None)];
+    assert_eq!(rt; device.stopped(&tears)?.bytes(1), b"ab1?".as_slice());
     Ok(())
 }
 
@@ -84,7 +107,7 @@ fn a_tearing_device_reads_what_is_written(rt: HostRuntime) -> Result<(), Fail> {
     let alloc = rt.alloc();
     round_trip(
         &rt,
-        &mut TearingDevice::new(alloc, Vec::new(alloc), Vec::new(alloc)),
+        &mut TearingDevice::new(alloc, memory(alloc, &[], &[])?, tear(0, None))?,
     )
 }
 

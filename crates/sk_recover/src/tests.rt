@@ -1,6 +1,6 @@
 //! Opening over devices in memory: a new store, a store with one group, damaged files, and a store whose making was cut short.
 use super::*;
-use sk_device::{MemDevice, TearingDevice};
+use sk_device::{MemDevice, Tear, TearingDevice};
 use sk_log::What;
 use sk_model::{Point, Tables};
 use sk_rows::{Catalog, Column, List, Sort, Table, Txt, Value};
@@ -218,25 +218,42 @@ fn a_failing_call_is_a_fault_of_the_device(rt: HostRuntime) -> Result<(), Fail> 
     Ok(())
 }
 
-/// What a stop leaves of the making of a new store whose call of this number fails, where so many bytes stand of what was not synced.
-fn cut_short(alloc: Global, failing: u64, standing: u64) -> Result<MemDevice, Fail> {
+/// What a stop leaves of the making of a new store whose call of this number fails.
+fn cut_short(alloc: Global, failing: u64, tear: Tear) -> Result<MemDevice, Fail> {
     let mut calls = Vec::new(alloc);
     calls.push(failing)?;
-    let mut disk = TearingDevice::new(alloc, calls, Vec::new(alloc));
+    let files = MemDevice::new(alloc, calls, Vec::new(alloc));
+    let mut disk = TearingDevice::new(alloc, files, tear)?;
     let _ = open(alloc, &mut disk, &catalog(alloc)?, START);
-    Ok(disk.stopped(&[standing])?)
+    Ok(disk.stopped(&[tear])?)
+}
+
+/// Whether what is left opens as a new store. It opens, and has the bytes of the store then.
+fn opens_anew(rt: &impl Abort, alloc: Global, mut disk: MemDevice) -> Result<bool, Fail> {
+    let opened = open(alloc, &mut disk, &catalog(alloc)?, START);
+    assert_eq!(rt; disk.bytes(0), ROOT.as_slice());
+    assert_eq!(rt; disk.bytes(2), [0].as_slice());
+    assert_eq!(rt; disk.bytes(5), IMAGE.as_slice());
+    Ok(opened.ok().ok_or("a store")?.fresh)
 }
 
 #[test]
 fn a_store_opens_whatever_call_of_its_making_fails(rt: HostRuntime) -> Result<(), Fail> {
     let alloc = rt.alloc();
-    // Seven syncs, and a write and a sync for each of five steps; the eighteenth call is never made.
-    for failing in 1..19 {
-        for standing in 0..4 {
-            let mut disk = cut_short(alloc, failing, standing * 11)?;
-            assert!(rt; open(alloc, &mut disk, &catalog(alloc)?, START).is_ok());
-            assert_eq!(rt; disk.bytes(0), ROOT.as_slice());
+    // Seven syncs, and a write and a sync for each of five steps, of which the last opens the gate.
+    for failing in 1..18 {
+        for stands in 0..4 {
+            for filler in [None, Some(0), Some(1), Some(255)] {
+                let tear = Tear {
+                    stands: stands * 11,
+                    filler,
+                };
+                let fresh = opens_anew(&rt, alloc, cut_short(alloc, failing, tear)?)?;
+                assert!(rt; fresh || failing > 15);
+            }
         }
     }
+    let none_fails = cut_short(alloc, 18, Tear { stands: 0, filler: None })?;
+    assert!(rt; !opens_anew(&rt, alloc, none_fails)?);
     Ok(())
 }

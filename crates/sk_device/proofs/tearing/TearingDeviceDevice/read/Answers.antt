@@ -3,4 +3,4 @@ use Rattle.sk_device.proofs.Tears.{kept}
 use Rattle.sk_device.proofs.tearing.TearingDeviceDevice.read.Goals as goal
 
 pub invariant_of-self : goal.invariant_of-self
-invariant_of-self c = record { same = kept _ _ (reverse c.args.self.now.log.items) (reverse c.args.self.now.log.items) c.read.ensures.looks.seen refl c.args.self.now.same }
+invariant_of-self c = record { same = kept _ _ _ (reverse c.args.self.now.log.items) (reverse c.args.self.now.log.items) c.read.ensures.looks.seen refl c.args.self.now.same }
