@@ -44,12 +44,12 @@ abbrev NoTwo : {X : Type 0} → (X → X → Bool) → List X → Type 0
 NoTwo same [] = Unit {0}
 NoTwo same (x ∷ xs) = Each (λ y. same x y ≡ false) xs × NoTwo same xs
 
-record CutAt {X : Type 0} (x : X) (xs : List X) : Type 0 where
-  front : List X
-  back : List X
-  is : xs ≡ front ++ x ∷ back
+pub record CutAt {X : Type 0} (x : X) (xs : List X) : Type 0 where
+  pub front : List X
+  pub back : List X
+  pub is : xs ≡ front ++ x ∷ back
 
-cut_at : {X : Type 0} (x : X) (xs : List X) → In x xs → CutAt x xs
+pub cut_at : {X : Type 0} (x : X) (xs : List X) → In x xs → CutAt x xs
 cut_at x [] i = absurd i
 cut_at {X = X} x (y ∷ ys) i = ⊎_elim
     (λ (e : x ≡ y). record { front = []; back = ys; is = ap (λ (z : X). z ∷ ys) (sym e) })

@@ -72,7 +72,7 @@ or_in_a_row : (a b c : Option ℕ) → or_else a (or_else b c) ≡ or_else (or_e
 or_in_a_row None b c = refl
 or_in_a_row (Some n) b c = refl
 
-opened_more : (e : EngineName) (xs ys : Talk) → opened e (xs ++ ys) ≡ or_else (opened e xs) (opened e ys)
+pub opened_more : (e : EngineName) (xs ys : Talk) → opened e (xs ++ ys) ≡ or_else (opened e xs) (opened e ys)
 opened_more e [] ys = refl
 opened_more e (x ∷ xs) ys = ap (or_else (opened_in e x)) (opened_more e xs ys) ∙ or_in_a_row (opened_in e x) (opened e xs) (opened e ys)
 
