@@ -6,6 +6,7 @@ use Rattle.std.proofs.lemmas.Bool.{false≢true}
 use Rattle.std.proofs.lemmas.List.{append-nil, append_cancel_left}
 use Rattle.std.proofs.lemmas.List.Concat.{flat_map-append}
 use Rattle.std.proofs.lemmas.List.Folds.{list_any-append}
+use Rattle.std.proofs.Math.Bool.{or-true}
 use Rattle.sk_rows.specs.declared.table.Table.{Table}
 use Rattle.sk_model.specs.declared.engine.EngineName.{EngineName}
 use Rattle.sk_model.specs.declared.engine.EngineName.TheVariants.{Mem, Store}
@@ -163,12 +164,8 @@ module _ (catalog : List Table) (r : Record) (talk : Talk) (t : Talks catalog r 
       ap (list_any (λ (j : Entry). is_stamp j.call)) (calls_are e) ∙ list_any-append (λ (j : Entry). is_stamp j.call) (calls_in e t.spoken) (behind e)
       ∙ ap (λ b. list_any (λ (j : Entry). is_stamp j.call) (calls_in e t.spoken) || b)
       (list_any-append (λ (j : Entry). is_stamp j.call) (calls_in e steps_talk) (calls_in e leaves_talk) ∙ ap (λ b. b || list_any (λ (j : Entry). is_stamp j.call) (calls_in e leaves_talk)) stamps)
-      ∙ or_true _
+      ∙ or-true _
     where
-      or_true : (b : Bool) → (b || true) ≡ true
-      or_true true = refl
-      or_true false = refl
-
       all : (e other : EngineName) (wm ws : Bool) → same_engine e other ≡ false → written wm ws e ≡ true → written wm ws other ≡ false → list_any (λ (j : Entry). is_stamp j.call) (calls_in e (steps_calls r.label t.numbered (commit_steps wm ws))) ≡ true
       all Mem Mem wm ws a w u = absurd (false≢true (sym a))
       all Store Store wm ws a w u = absurd (false≢true (sym a))

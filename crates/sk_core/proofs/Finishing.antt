@@ -3,6 +3,7 @@ use Rattle.std.specs.Prelude.{ℕ, Bool, true, false, cond, not, ◌&&◌, ◌||
 use Rattle.std.proofs.Common.{refl, sym, ap, subst, ◌∙◌}
 use Rattle.std.specs.List.{list_any}
 use Rattle.std.proofs.lemmas.Bool.{and_parts, false≢true}
+use Rattle.std.proofs.Math.Bool.{or-true}
 use Rattle.sk_model.specs.declared.label.Label.{Label}
 use Rattle.sk_model.specs.declared.engine.EngineName.{EngineName}
 use Rattle.sk_model.specs.declared.engine.EngineName.TheVariants.{Mem, Store}
@@ -203,11 +204,7 @@ check_may_fail StampStore e = absurd (false≢true e)
 -- who stamped is committed
 pub stamped_committed : (how : Ending) (wm ws : Bool) (taken rest : List StepName) → commit_steps wm ws ≡ taken ++ rest → EndsAt how taken rest → list_any is_stamp taken ≡ true → is_committed how ≡ true
 stamped_committed ending.Committed wm ws taken rest steps ends s = refl
-stamped_committed ending.Open wm ws taken rest steps ends s = absurd (false≢true (sym ends ∙ ap (λ b. list_any is_check taken || b) s ∙ or_true (list_any is_check taken)))
-  where
-    or_true : (b : Bool) → (b || true) ≡ true
-    or_true true = refl
-    or_true false = refl
+stamped_committed ending.Open wm ws taken rest steps ends s = absurd (false≢true (sym ends ∙ ap (λ b. list_any is_check taken || b) s ∙ or-true (list_any is_check taken)))
 stamped_committed ending.CheckFailed wm ws taken rest steps ends s = absurd (false≢true (sym (stamped_late wm ws taken rest steps s).1 ∙ weaker is_check may_fail rest check_may_fail ends))
 stamped_committed ending.Spent wm ws taken rest steps ends s = absurd (false≢true (sym (stamped_late wm ws taken rest steps s).1 ∙ weaker _ may_fail rest draw_may_fail ends))
 stamped_committed ending.NoMemory wm ws taken rest steps ends s = absurd (false≢true (sym ends ∙ (stamped_late wm ws taken rest steps s).0))

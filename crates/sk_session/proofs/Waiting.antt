@@ -3,6 +3,7 @@ use Rattle.std.specs.Prelude.{◌≡◌, ℕ, ◌+◌, zero, suc, List, [], ◌�
 use Rattle.std.proofs.Common.{refl, sym, ap, subst, ◌∙◌, append_assoc}
 use Rattle.std.proofs.Math.Numerals.{add-one}
 use Rattle.std.specs.List.{AllByRecursion}
+use Rattle.std.proofs.Math.Bool.{or-false, or-true}
 use Rattle.sk_rows.specs.declared.table.Table.{Table}
 use Rattle.sk_rows.specs.declared.value.Value.{Value}
 use Rattle.sk_rows.specs.declared.statement.Statement.{Statement}
@@ -51,21 +52,13 @@ next_write (x ∷ xs) (suc i) w is = rw (add-one (suc i)) (next_write xs i w is 
 more : (part calls : Talk) (c : OwnCall) → (part ++ c ∷ []) ++ calls ≡ part ++ (c ∷ calls)
 more part calls c = append_assoc part (c ∷ []) calls
 
-or_false : (b : Bool) → (b || false) ≡ b
-or_false true = refl
-or_false false = refl
-
-or_true : (b : Bool) → (b || true) ≡ true
-or_true true = refl
-or_true false = refl
-
 -- a call that opens nothing and writes nothing
 pub knows_more : (live : Live) (talk : Talk) (c : OwnCall) → opened Mem (c ∷ []) ≡ None → opened Store (c ∷ []) ≡ None → wrote Mem (c ∷ []) ≡ false → wrote Store (c ∷ []) ≡ false → Knows live talk → Knows live (talk ++ c ∷ [])
 knows_more live talk c om os wm ws k = record {
   mem = k.mem ∙ sym (opened_append Mem talk (c ∷ []) ∙ ap (or_else (opened Mem talk)) om ∙ or_else_none (opened Mem talk));
   store = k.store ∙ sym (opened_append Store talk (c ∷ []) ∙ ap (or_else (opened Store talk)) os ∙ or_else_none (opened Store talk));
-  wrote_mem = k.wrote_mem ∙ sym (wrote_append Mem talk (c ∷ []) ∙ ap (λ b. wrote Mem talk || b) wm ∙ or_false (wrote Mem talk));
-  wrote_store = k.wrote_store ∙ sym (wrote_append Store talk (c ∷ []) ∙ ap (λ b. wrote Store talk || b) ws ∙ or_false (wrote Store talk));
+  wrote_mem = k.wrote_mem ∙ sym (wrote_append Mem talk (c ∷ []) ∙ ap (λ b. wrote Mem talk || b) wm ∙ or-false (wrote Mem talk));
+  wrote_store = k.wrote_store ∙ sym (wrote_append Store talk (c ∷ []) ∙ ap (λ b. wrote Store talk || b) ws ∙ or-false (wrote Store talk));
   mem_undrawn = k.mem_undrawn;
   store_undrawn = k.store_undrawn;
   unpassed = k.unpassed;
@@ -86,8 +79,8 @@ pub knows_put : (live : Live) (talk : Talk) (e : EngineName) (w : Write) → is_
 knows_put live talk Mem w is k = record {
   mem = k.mem ∙ sym (opened_append Mem talk _ ∙ or_else_none (opened Mem talk));
   store = k.store ∙ sym (opened_append Store talk _ ∙ or_else_none (opened Store talk));
-  wrote_mem = sym (wrote_append Mem talk (own Mem (put_call live.label w) answer.Done ∷ []) ∙ or_true (wrote Mem talk));
-  wrote_store = k.wrote_store ∙ sym (wrote_append Store talk (own Mem (put_call live.label w) answer.Done ∷ []) ∙ or_false (wrote Store talk));
+  wrote_mem = sym (wrote_append Mem talk (own Mem (put_call live.label w) answer.Done ∷ []) ∙ or-true (wrote Mem talk));
+  wrote_store = k.wrote_store ∙ sym (wrote_append Store talk (own Mem (put_call live.label w) answer.Done ∷ []) ∙ or-false (wrote Store talk));
   mem_undrawn = k.mem_undrawn;
   store_undrawn = k.store_undrawn;
   unpassed = k.unpassed;
@@ -98,8 +91,8 @@ knows_put live talk Mem w is k = record {
 knows_put live talk Store w is k = record {
   mem = k.mem ∙ sym (opened_append Mem talk _ ∙ or_else_none (opened Mem talk));
   store = k.store ∙ sym (opened_append Store talk _ ∙ or_else_none (opened Store talk));
-  wrote_mem = k.wrote_mem ∙ sym (wrote_append Mem talk (own Store (put_call live.label w) answer.Done ∷ []) ∙ or_false (wrote Mem talk));
-  wrote_store = sym (wrote_append Store talk (own Store (put_call live.label w) answer.Done ∷ []) ∙ or_true (wrote Store talk));
+  wrote_mem = k.wrote_mem ∙ sym (wrote_append Mem talk (own Store (put_call live.label w) answer.Done ∷ []) ∙ or-false (wrote Mem talk));
+  wrote_store = sym (wrote_append Store talk (own Store (put_call live.label w) answer.Done ∷ []) ∙ or-true (wrote Store talk));
   mem_undrawn = k.mem_undrawn;
   store_undrawn = k.store_undrawn;
   unpassed = k.unpassed;
@@ -118,8 +111,8 @@ pub knows_open : (live : Live) (talk : Talk) (e : EngineName) (n : ℕ) → snap
 knows_open live talk Mem n none k = record {
   mem = sym (opened_append Mem talk (own Mem (call.Open live.label n) answer.Done ∷ []) ∙ ap (λ o. or_else o (Some n)) (sym k.mem ∙ none));
   store = k.store ∙ sym (opened_append Store talk (own Mem (call.Open live.label n) answer.Done ∷ []) ∙ or_else_none (opened Store talk));
-  wrote_mem = k.wrote_mem ∙ sym (wrote_append Mem talk (own Mem (call.Open live.label n) answer.Done ∷ []) ∙ or_false (wrote Mem talk));
-  wrote_store = k.wrote_store ∙ sym (wrote_append Store talk (own Mem (call.Open live.label n) answer.Done ∷ []) ∙ or_false (wrote Store talk));
+  wrote_mem = k.wrote_mem ∙ sym (wrote_append Mem talk (own Mem (call.Open live.label n) answer.Done ∷ []) ∙ or-false (wrote Mem talk));
+  wrote_store = k.wrote_store ∙ sym (wrote_append Store talk (own Mem (call.Open live.label n) answer.Done ∷ []) ∙ or-false (wrote Store talk));
   mem_undrawn = k.mem_undrawn;
   store_undrawn = k.store_undrawn;
   unpassed = k.unpassed;
@@ -130,8 +123,8 @@ knows_open live talk Mem n none k = record {
 knows_open live talk Store n none k = record {
   mem = k.mem ∙ sym (opened_append Mem talk (own Store (call.Open live.label n) answer.Done ∷ []) ∙ or_else_none (opened Mem talk));
   store = sym (opened_append Store talk (own Store (call.Open live.label n) answer.Done ∷ []) ∙ ap (λ o. or_else o (Some n)) (sym k.store ∙ none));
-  wrote_mem = k.wrote_mem ∙ sym (wrote_append Mem talk (own Store (call.Open live.label n) answer.Done ∷ []) ∙ or_false (wrote Mem talk));
-  wrote_store = k.wrote_store ∙ sym (wrote_append Store talk (own Store (call.Open live.label n) answer.Done ∷ []) ∙ or_false (wrote Store talk));
+  wrote_mem = k.wrote_mem ∙ sym (wrote_append Mem talk (own Store (call.Open live.label n) answer.Done ∷ []) ∙ or-false (wrote Mem talk));
+  wrote_store = k.wrote_store ∙ sym (wrote_append Store talk (own Store (call.Open live.label n) answer.Done ∷ []) ∙ or-false (wrote Store talk));
   mem_undrawn = k.mem_undrawn;
   store_undrawn = k.store_undrawn;
   unpassed = k.unpassed;
