@@ -104,28 +104,34 @@ check_drew e wm ws taken rest steps d = then _ _ (cut wm ws taken rest steps (λ
     all Store false true = refl
     all Store false false = refl
 
--- a stamp comes behind a draw, and then neither a draw nor the check is left
+-- the check and a stamp come behind a draw, and then neither a draw nor the check is left
 abbrev may_fail : StepName → Bool
 may_fail s = is_check s || (is_draw_mem s || is_draw_store s)
 
-stamped_late : (wm ws : Bool) (taken rest : List StepName) → commit_steps wm ws ≡ taken ++ rest → list_any is_stamp taken ≡ true
+abbrev is_late : (StepName → Bool) → List StepName → List StepName → Bool
+is_late decides taken rest = implies (list_any decides taken) ((list_any is_draw_mem taken || list_any is_draw_store taken) && not (begins_with may_fail rest))
+
+late : (decides : StepName → Bool) (wm ws : Bool) (taken rest : List StepName) → all_cuts (is_late decides) (commit_steps wm ws) ≡ true → commit_steps wm ws ≡ taken ++ rest → list_any decides taken ≡ true
     → ((list_any is_draw_mem taken || list_any is_draw_store taken) ≡ true) × (begins_with may_fail rest ≡ false)
-stamped_late wm ws taken rest steps s =
-    let both = and_parts _ _ (then _ _ (cut wm ws taken rest steps late (all wm ws)) s) in
+late decides wm ws taken rest all steps s =
+    let both : ((list_any is_draw_mem taken || list_any is_draw_store taken) ≡ true) × (not (begins_with may_fail rest) ≡ true) = and_parts _ _ (then _ _ (cut wm ws taken rest steps (is_late decides) all) s) in
     (both.0, not_true _ both.1)
   where
-    late : List StepName → List StepName → Bool
-    late taken rest = implies (list_any is_stamp taken) ((list_any is_draw_mem taken || list_any is_draw_store taken) && not (begins_with may_fail rest))
-
-    all : (wm ws : Bool) → all_cuts late (commit_steps wm ws) ≡ true
-    all true true = refl
-    all true false = refl
-    all false true = refl
-    all false false = refl
-
     not_true : (b : Bool) → not b ≡ true → b ≡ false
     not_true false e = refl
     not_true true e = absurd (false≢true e)
+
+stamps_late : (wm ws : Bool) → all_cuts (is_late is_stamp) (commit_steps wm ws) ≡ true
+stamps_late true true = refl
+stamps_late true false = refl
+stamps_late false true = refl
+stamps_late false false = refl
+
+checks_late : (wm ws : Bool) → all_cuts (is_late is_check) (commit_steps wm ws) ≡ true
+checks_late true true = refl
+checks_late true false = refl
+checks_late false true = refl
+checks_late false false = refl
 
 -- a step of the engine is taken only where the engine was written
 abbrev pub is_step_of : EngineName → StepName → Bool
@@ -201,21 +207,29 @@ check_may_fail CloseStore e = absurd (false≢true e)
 check_may_fail StampMem e = absurd (false≢true e)
 check_may_fail StampStore e = absurd (false≢true e)
 
+-- who has taken a step that decides is committed
+decided_committed : (how : Ending) (decides : StepName → Bool) (taken rest : List StepName) → EndsAt how taken rest → list_any decides taken ≡ true
+    → ((list_any is_draw_mem taken || list_any is_draw_store taken) ≡ true) × (begins_with may_fail rest ≡ false) → (list_any is_check taken || list_any is_stamp taken) ≡ true → is_committed how ≡ true
+decided_committed ending.Committed decides taken rest ends d l s = refl
+decided_committed ending.Open decides taken rest ends d l s = absurd (false≢true (sym ends ∙ s))
+decided_committed ending.CheckFailed decides taken rest ends d l s = absurd (false≢true (sym l.1 ∙ weaker is_check may_fail rest check_may_fail ends))
+decided_committed ending.Spent decides taken rest ends d l s = absurd (false≢true (sym l.1 ∙ weaker _ may_fail rest draw_may_fail ends))
+decided_committed ending.NoMemory decides taken rest ends d l s = absurd (false≢true (sym ends ∙ l.0))
+decided_committed ending.RolledBack decides taken rest ends d l s = absurd (false≢true (sym (ap (list_any decides) ends) ∙ d))
+decided_committed ending.Conflict decides taken rest ends d l s = absurd (false≢true (sym (ap (list_any decides) ends) ∙ d))
+decided_committed ending.Recycled decides taken rest ends d l s = absurd (false≢true (sym (ap (list_any decides) ends) ∙ d))
+decided_committed ending.Old decides taken rest ends d l s = absurd (false≢true (sym (ap (list_any decides) ends) ∙ d))
+decided_committed ending.Device decides taken rest ends d l s = absurd (false≢true (sym (ap (list_any decides) ends) ∙ d))
+
 -- who stamped is committed
 pub stamped_committed : (how : Ending) (wm ws : Bool) (taken rest : List StepName) → commit_steps wm ws ≡ taken ++ rest → EndsAt how taken rest → list_any is_stamp taken ≡ true → is_committed how ≡ true
-stamped_committed ending.Committed wm ws taken rest steps ends s = refl
-stamped_committed ending.Open wm ws taken rest steps ends s = absurd (false≢true (sym ends ∙ ap (λ b. list_any is_check taken || b) s ∙ or-true (list_any is_check taken)))
-stamped_committed ending.CheckFailed wm ws taken rest steps ends s = absurd (false≢true (sym (stamped_late wm ws taken rest steps s).1 ∙ weaker is_check may_fail rest check_may_fail ends))
-stamped_committed ending.Spent wm ws taken rest steps ends s = absurd (false≢true (sym (stamped_late wm ws taken rest steps s).1 ∙ weaker _ may_fail rest draw_may_fail ends))
-stamped_committed ending.NoMemory wm ws taken rest steps ends s = absurd (false≢true (sym ends ∙ (stamped_late wm ws taken rest steps s).0))
-stamped_committed ending.RolledBack wm ws taken rest steps ends s = absurd (none taken ends s)
-  where
-    none : (ss : List StepName) → ss ≡ [] → list_any is_stamp ss ≡ true → ⊥
-    none ss e s = false≢true (sym (ap (list_any is_stamp) e) ∙ s)
-stamped_committed ending.Conflict wm ws taken rest steps ends s = absurd (false≢true (sym (ap (list_any is_stamp) ends) ∙ s))
-stamped_committed ending.Recycled wm ws taken rest steps ends s = absurd (false≢true (sym (ap (list_any is_stamp) ends) ∙ s))
-stamped_committed ending.Old wm ws taken rest steps ends s = absurd (false≢true (sym (ap (list_any is_stamp) ends) ∙ s))
-stamped_committed ending.Device wm ws taken rest steps ends s = absurd (false≢true (sym (ap (list_any is_stamp) ends) ∙ s))
+stamped_committed how wm ws taken rest steps ends s =
+    decided_committed how is_stamp taken rest ends s (late is_stamp wm ws taken rest (stamps_late wm ws) steps s) (ap (λ b. list_any is_check taken || b) s ∙ or-true (list_any is_check taken))
+
+-- and so is who has passed its check
+pub checked_committed : (how : Ending) (wm ws : Bool) (taken rest : List StepName) → commit_steps wm ws ≡ taken ++ rest → EndsAt how taken rest → list_any is_check taken ≡ true → is_committed how ≡ true
+checked_committed how wm ws taken rest steps ends s =
+    decided_committed how is_check taken rest ends s (late is_check wm ws taken rest (checks_late wm ws) steps s) (ap (λ b. b || list_any is_stamp taken) s)
 
 -- ---- the calls behind the statements'
 
