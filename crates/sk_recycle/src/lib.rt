@@ -8,3 +8,6 @@ pub use laws::{
     selection_is_open, start_is_behind, steps_stay_behind, sweep_is_bounded, sweep_stays_behind,
 };
 pub use sweeping::{sweep, upto};
+
+#[cfg(test)]
+mod tests;
