@@ -16,3 +16,5 @@ pub mod Refused
 pub mod Recorded
 pub mod Stages
 pub mod Pausing
+pub mod Counting
+pub mod Exchanging

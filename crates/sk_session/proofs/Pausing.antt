@@ -1,11 +1,10 @@
 -- Between two lines a live transaction has a record with just the calls that it has made.
-use Rattle.std.specs.Prelude.{◌≡◌, ℕ, List, [], ◌∷◌, ◌++◌, Option, Some, None, Bool, true, false, cond, ◌||◌, ◌⊎◌, ◌<◌, if◌then◌else◌, is_some, IfSome}
+use Rattle.std.specs.Prelude.{◌≡◌, ℕ, List, [], ◌∷◌, ◌++◌, Option, Some, None, Bool, true, false, cond, ◌||◌, ◌<◌, if◌then◌else◌, is_some, IfSome}
 use Rattle.std.proofs.Common.{refl, sym, ap, subst, ◌∙◌, inl, inr, append-nil}
 use Rattle.std.specs.List.{list_any, AllByRecursion}
 use Rattle.sk_rows.specs.declared.table.Table.{Table}
 use Rattle.sk_model.specs.declared.engine.EngineName.TheVariants.{Mem, Store}
 use Rattle.sk_model.specs.declared.record.Said.{Said}
-use Rattle.sk_model.specs.declared.record.Record.{Record}
 use Rattle.sk_model.specs.declared.record.Ending.TheVariants.{Open, Committed}
 use Rattle.sk_model.specs.declared.step.StepName.{StepName}
 use Rattle.sk_model.specs.declared.step.StepName.TheVariants.{CloseMem, CloseStore, DrawMem, DrawStore, Check, StampMem, StampStore}
@@ -16,7 +15,7 @@ use Rattle.sk_commit.specs.declared.committing.Used.{Used}
 use Rattle.sk_commit.specs.declared.committing.Committing.{Committing}
 use Rattle.sk_commit.specs.declared.committing.Stage.{Stage}
 use Rattle.sk_commit.specs.declared.committing.Stage.TheVariants.{Step, Leave}
-use Rattle.sk_commit.specs.Told.{same_step, steps_before, steps_from, steps_of, taken_steps, numbered, talk_of, has_step}
+use Rattle.sk_commit.specs.Told.{same_step, steps_before, steps_from, steps_of, numbered, talk_of, has_step}
 use Rattle.sk_session.specs.Kept.{listed}
 use Rattle.sk_session.specs.declared.live.Live.{Live}
 use Rattle.sk_session.specs.Moving.{passed_at, record_now}

@@ -85,7 +85,7 @@ module _ (catalog : List Table) (number : ℕ) (old : List Record) (talks : List
   spoken_talks more new (at.Stepping live c) turn h = (talk ++ more, lives more new live.label h.0 h.1, h.2)
   spoken_talks more new (at.Asking live doing) turn h = (talk ++ more, lives more new live.label h.0 h.1, h.2)
 
-grown_none : (talks : List Talk) → grown talks [] ≡ talks
+pub grown_none : (talks : List Talk) → grown talks [] ≡ talks
 grown_none [] = refl
 grown_none (t ∷ []) = ap (λ x. x ∷ []) (append-nil t)
 grown_none (t ∷ u ∷ ts) = ap (λ ts. t ∷ ts) (grown_none (u ∷ ts))

@@ -1,6 +1,5 @@
 -- A step of a commit that went on is followed by a step, and not by the end of an opening.
-use Rattle.std.specs.Prelude.{◌≡◌, ℕ, Option, Some, None, Bool, true, false, if◌then◌else◌}
-use Rattle.std.proofs.Common.{refl}
+use Rattle.std.specs.Prelude.{ℕ, Option, Some, None, Bool, true, false, if◌then◌else◌}
 use Rattle.sk_model.specs.declared.engine.EngineName.{EngineName}
 use Rattle.sk_model.specs.declared.engine.EngineName.TheVariants.{Mem, Store}
 use Rattle.sk_model.specs.declared.step.StepName.{StepName}
@@ -16,7 +15,7 @@ use Rattle.sk_commit.specs.declared.committing.CommitEnd.TheVariants.{Committed,
 use Rattle.sk_commit.specs.declared.committing.Committing.{Committing}
 use Rattle.sk_commit.specs.declared.committing.Stage.{Stage}
 use Rattle.sk_commit.specs.declared.committing.Stage.TheVariants.{Step, Leave}
-use Rattle.sk_commit.specs.declared.committing.Stepped.TheVariants.{Went, Early, Ended}
+use Rattle.sk_commit.specs.declared.committing.Stepped.TheVariants.{Went, Ended}
 use Rattle.sk_commit.specs.declared.committing.Taken.{Taken}
 use Rattle.sk_commit.specs.declared.committing.Taken.TheVariants as outcome
 use Rattle.sk_commit.specs.Committing.{next_step, owes_mem, owes_store, leaving, leave_store, ended, goes_on, went, draw_of, close_of, drawn, draw, closed, close, check, step_taken, taken_at, taken}

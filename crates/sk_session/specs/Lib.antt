@@ -4,3 +4,4 @@ pub mod Starting
 pub mod Speaks
 pub mod Refusals
 pub mod EachTalk
+pub mod Conversing

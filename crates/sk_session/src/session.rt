@@ -4,6 +4,7 @@ ghost use Rattle.std.specs.Prelude.{◌≡◌, ◌+◌, [], IfOk, IfErr, IfSome}
 ghost use Rattle.sk_session.specs.Moving as spec;
 ghost use Rattle.sk_session.specs.Moving.{Either, InsideTable, StartsInside, OutsideTable, StartsOutside, StartsAt, TakesAt};
 ghost use Rattle.sk_session.specs.EachTalk.{StartTalks, TakeTalks, LeaveTalks, TalksNow};
+ghost use Rattle.sk_session.specs.Conversing.{puts_done};
 ghost use Rattle.sk_session.specs.Starting.{Starts, Takes, Leaves, StartRefuses, StartKeeps, TakeKeeps, LeaveKeeps, fresh, records_in, records_now};
 ghost use Rattle.sk_model.specs.declared.reply.ErrWord.TheVariants.{Memory};
 ghost use Rattle.std.specs.Option.{option_copied};
@@ -366,6 +367,16 @@ impl Session {
         ensures talks { LeaveTalks self.old self.new }
     {
         self.leave_now(alloc)
+    }
+
+    /// How many writes of the statement that is being answered were put.
+    pub(crate) fn puts_done(&self) -> usize
+        ensures { result ≡ puts_done self.now.at }
+    {
+        match &self.at {
+            At::Asking(_, Job::Put(_, _, done, _)) => *done,
+            _ => 0,
+        }
     }
 
     /// The records of its transactions, in order. That of one that is live is as it began.
