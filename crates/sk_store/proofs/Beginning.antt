@@ -27,7 +27,7 @@ none_more [] m h e (suc t) key = refl
 none_more (x ∷ xs) m h e zero key = h 0 key
 none_more (x ∷ xs) m h e (suc t) key = none_more xs m (λ n k. h (suc n) k) e t key
 
-pub no_row : (tables : List Table) (t : ℕ) (key : Value) → row_of (no_rows tables) t key ≡ None
+no_row : (tables : List Table) (t : ℕ) (key : Value) → row_of (no_rows tables) t key ≡ None
 no_row [] t key = refl
 no_row (x ∷ xs) zero key = refl
 no_row (x ∷ xs) (suc t) key = no_row xs t key
@@ -44,17 +44,15 @@ none_len (x ∷ xs) = ap suc (none_len xs)
 none_shown : (cells : Cells) (columns : List Column) (key : Value) → RowShows true cells columns key no_head empty
 none_shown cells columns key = record { top = refl; last = refl; fit = λ at. tt; holds = λ t s. sym (none_seen s) }
 
-pub begins : (kept tables : List Table) (maps : List (BTreeMap Value Head)) (start : ℕ) (pages : List (List (Option (List ℕ)))) → kept ≡ tables → length maps ≡ length tables → ((t : ℕ) (key : Value) → head_at maps t key ≡ no_head)
-    → Shows true (HasCells pages) kept maps tables (λ t key. begun start (row_of (no_rows tables) t key))
-begins kept tables maps start pages same count none = record {
+pub begins : (kept tables : List Table) (maps : List (BTreeMap Value Head)) (pages : List (List (Option (List ℕ)))) → kept ≡ tables → length maps ≡ length tables → ((t : ℕ) (key : Value) → head_at maps t key ≡ no_head)
+    → Shows true (HasCells pages) kept maps tables (λ t key. empty)
+begins kept tables maps pages same count none = record {
   catalog = same;
   count = count;
   all = record {
     cells = cells_of pages;
     has_cells = λ p s. refl;
-    rows = λ t key.
-        subst (λ g. RowShows true (cells_of pages) (columns_at tables t) key g (begun start (row_of (no_rows tables) t key))) (sym (none t key))
-        (subst (λ r. RowShows true (cells_of pages) (columns_at tables t) key no_head (begun start r)) (sym (no_row tables t key)) (none_shown (cells_of pages) (columns_at tables t) key));
+    rows = λ t key. subst (λ g. RowShows true (cells_of pages) (columns_at tables t) key g empty) (sym (none t key)) (none_shown (cells_of pages) (columns_at tables t) key);
     apart = λ told. record {
       owner = λ p s. None;
       owned = λ t key. subst (λ g. Owns (λ p s. None) g.cell (row_id t key)) (sym (none t key)) tt;
@@ -62,3 +60,7 @@ begins kept tables maps start pages same count none = record {
     };
   };
 }
+
+-- no rows have no versions
+pub none_begun : (tables : List Table) (start : ℕ) → ◌≡◌ {A = Chains} (λ t key. empty) (λ t key. begun start (row_of (no_rows tables) t key))
+none_begun tables start = λ i t key. begun start (sym (no_row tables t key) i)

@@ -7,6 +7,7 @@ pub mod Lengths
 pub mod Lifting
 pub mod Mapping
 pub mod Moving
+pub mod Opening
 pub mod Pushes
 pub mod Readings
 pub mod Scans

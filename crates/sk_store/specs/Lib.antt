@@ -3,6 +3,7 @@ pub mod Calls
 pub mod Cells
 pub mod Heads
 pub mod Journaled
+pub mod Loading
 pub mod Maps
 pub mod Reads
 pub mod Scanning

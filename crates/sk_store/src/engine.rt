@@ -1,18 +1,23 @@
 //! The storage engine.
 
-ghost use Rattle.std.specs.Prelude.{List, true, IfOk};
+ghost use Rattle.std.specs.Prelude.{◌≡◌, ℕ, List, T, true, length, IfOk};
+ghost use Rattle.std.specs.FinMap.{is_sorted};
+ghost use Rattle.sk_rows.specs.Values.{value_cmp};
 ghost use Rattle.sk_model.specs.declared.engine.EngineName.TheVariants.{Store};
 ghost use Rattle.sk_model.specs.declared.call.Entry.{Entry};
+ghost use Rattle.sk_model.specs.Database.{table_of};
 ghost use Rattle.sk_model.specs.Engine.{engine_at};
 ghost use Rattle.sk_store.specs.Begun.{no_rows};
+ghost use Rattle.sk_store.specs.Loading.{RowsFit};
 
-use crate::first::first_heads;
+use crate::first::bare_rows;
+use crate::loading::load_tables;
 use crate::page_vec::PageVec;
 use crate::paged::PagedRows;
 use sk_chain::Engine;
 use sk_engine::Versioned;
-use sk_model::{CommitList, EngineCall, EngineFault, KeyedRows, Label};
-use sk_rows::{Catalog, Copies, NoMemory, Row, Value};
+use sk_model::{CommitList, EngineCall, EngineFault, KeyedRows, Label, Tables};
+use sk_rows::{Catalog, NoMemory, Row, Value};
 use std::alloc::Global;
 
 /// The storage engine: the newest version of each row in a cell of a page, the older ones as undo records. Its pages are in memory,
@@ -23,6 +28,30 @@ pub struct StoreEngine {
 }
 
 impl StoreEngine {
+    /// An engine with these rows, one list a table of the catalog, each in the order of its keys, and with this number to begin with.
+    /// Each row fits its table, and so is short enough for a cell.
+    pub fn new(
+        alloc: Global,
+        catalog: &Catalog,
+        rows: &Tables,
+        start: u32,
+    ) -> Result<StoreEngine, NoMemory>
+        requires count { length rows.now ≡ length catalog.now }
+        requires ordered { (t : ℕ) → T (is_sorted value_cmp (table_of rows.now t)) }
+        requires fit { (t : ℕ) → RowsFit catalog.now t (table_of rows.now t) }
+        ensures { IfOk result (λ m. (js : List Entry) → ⟦<StoreEngine as Engine>⟧.stands m (engine_at Store catalog.now rows.now start) js) }
+    {
+        let mut paged = bare_rows(alloc, catalog)?;
+        match load_tables(alloc, &mut paged, rows.as_slice(), start) {
+            Ok(()) => {
+                let engine = Versioned::new(alloc, paged, start);
+                Ok(StoreEngine { engine })
+            }
+            // Pages in memory fail for want of memory alone.
+            Err(_) => Err(NoMemory),
+        }
+    }
+
     /// An engine of these tables, without rows, and with this number to begin with.
     pub fn without_rows(
         alloc: Global,
@@ -31,16 +60,8 @@ impl StoreEngine {
     ) -> Result<StoreEngine, NoMemory>
         ensures { IfOk result (λ m. (js : List Entry) → ⟦<StoreEngine as Engine>⟧.stands m (engine_at Store catalog.now (no_rows catalog.now) start) js) }
     {
-        let kept = catalog.copy(alloc)?;
-        let heads = first_heads(alloc, catalog.tables())?;
-        let pages = PageVec::new(alloc);
-        let rows = PagedRows {
-            alloc,
-            catalog: kept,
-            pages,
-            heads,
-        };
-        let engine = Versioned::new(alloc, rows, start);
+        let paged = bare_rows(alloc, catalog)?;
+        let engine = Versioned::new(alloc, paged, start);
         Ok(StoreEngine { engine })
     }
 }

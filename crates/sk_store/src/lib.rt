@@ -7,6 +7,7 @@ mod first;
 mod head;
 mod heads;
 mod laws;
+mod loading;
 mod page_vec;
 mod paged;
 mod pages;
