@@ -37,11 +37,11 @@ use Rattle.sk_core.proofs.Meeting.{get_met, scan_met, open_met, put_met, filter_
 
 -- ---- an entry of a legal journal
 
-legal_at : (e : EngineTable) (xs : List Entry) (j : Entry) (ys : List Entry) → Legal e (xs ++ j ∷ ys) → IsReply (after_entries e xs) j.call j.reply
+pub legal_at : (e : EngineTable) (xs : List Entry) (j : Entry) (ys : List Entry) → Legal e (xs ++ j ∷ ys) → IsReply (after_entries e xs) j.call j.reply
 legal_at e [] j ys h = h.0
 legal_at e (x ∷ xs) j ys h = legal_at (step e x) xs j ys h.1
 
-allowed_at : (e : EngineTable) (xs : List Entry) (j : Entry) (ys : List Entry) → Allowed e (xs ++ j ∷ ys) → may (after_entries e xs) j.call ≡ true
+pub allowed_at : (e : EngineTable) (xs : List Entry) (j : Entry) (ys : List Entry) → Allowed e (xs ++ j ∷ ys) → may (after_entries e xs) j.call ≡ true
 allowed_at e [] j ys h = h.0
 allowed_at e (x ∷ xs) j ys h = allowed_at (step e x) xs j ys h.1
 

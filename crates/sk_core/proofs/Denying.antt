@@ -9,13 +9,12 @@ use Rattle.sk_model.specs.declared.point.Point.{Point}
 use Rattle.sk_model.specs.declared.point.Recycled.{Recycled}
 use Rattle.sk_model.specs.declared.record.Record.{Record}
 use Rattle.sk_model.specs.declared.record.Said.{Said}
-use Rattle.sk_model.specs.declared.reply.ErrWord.TheVariants as err
 use Rattle.sk_model.specs.declared.reply.Reply.{Reply}
 use Rattle.sk_model.specs.declared.reply.Reply.TheVariants as reply
 use Rattle.sk_model.specs.Numbers.{greatest_number}
 use Rattle.sk_model.specs.Records.{same_label}
 use Rattle.sk_model.specs.Talks.{own, opened}
-use Rattle.sk_model.specs.RecordTalks.{EndReply, refuses_commit, Outdone, Talks}
+use Rattle.sk_model.specs.RecordTalks.{Talks}
 use Rattle.sk_model.proofs.Lists.{Each}
 use Rattle.sk_model.proofs.Labels.{same_is}
 use Rattle.sk_weave.specs.declared.answer.Passed.{Passed}
@@ -32,7 +31,7 @@ use Rattle.sk_core.specs.State.{counter}
 use Rattle.sk_core.specs.Recorded.{HasTalk}
 use Rattle.sk_core.specs.Causes.{MadeByOther, Drawer, points_of, Ring, IsPassed, Caused, IsStateOf, MadeSelection, RegistrySaid, RefusalsAreCaused}
 use Rattle.sk_core.proofs.Members.{each_in, in_front, distinct_same}
-use Rattle.sk_core.proofs.Refusing.{is_plain, Source, ByFault, ByAnchor, Plain, sources}
+use Rattle.sk_core.proofs.Refusing.{is_plain, Source, ByFault, ByAnchor, Plain, said_sources}
 use Rattle.sk_core.proofs.Causes.{met, stands, by_engine, number_past, snapshot_past}
 
 at_least_itself : (a b : ℕ) → a ≤ b → b < a → ⊥
@@ -201,16 +200,5 @@ module _ (h : Traces) (ring : Ring) (t : Transaction) (r : Record) (linked : Lin
   each_caused talks [] f k = tt
   each_caused talks (s ∷ said) f k = (caused talks s.reply f.0 k.0, each_caused talks said f.1 k.1)
 
-refusal_plain : (r : Reply) → refuses_commit r ≡ true → is_plain r ≡ true
-refusal_plain (reply.CheckFailed point mem store) e = refl
-refusal_plain (reply.Spent name) e = refl
-refusal_plain (reply.Refused err.Memory) e = refl
-refusal_plain _ e = absurd cc
-
 pub refusals_are_caused : RefusalsAreCaused
-refusals_are_caused h ring t r linked among same made talks said = each_caused h ring t r linked among same made talks r.said (from talks.said) said
-  where
-    from : (r.said ≡ talks.heard) ⊎ Outdone r talks.heard → Each (λ (s : Said). Source (opened Mem talks.spoken) talks.spoken s.reply) r.said
-    from (inl is) = subst (Each (λ (s : Said). Source (opened Mem talks.spoken) talks.spoken s.reply)) (sym is)
-        (sources h.catalog r r.label r.kind talks.heard [] talks.spoken (subst (Each (EndReply r)) is talks.replies) talks.asked)
-    from (inr o) = subst (Each (λ (s : Said). Source (opened Mem talks.spoken) talks.spoken s.reply)) (sym o.said_is) (Plain (refusal_plain o.refusal o.refuses), tt)
+refusals_are_caused h ring t r linked among same made talks said = each_caused h ring t r linked among same made talks r.said (said_sources h.catalog r t.talk talks) said

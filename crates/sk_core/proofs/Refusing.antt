@@ -1,5 +1,5 @@
 -- Where a record's refusal came from: a call of its own that an engine refused, its anchor, or neither.
-use Rattle.std.specs.Prelude.{ℕ, Bool, true, false, cond, ◌≡◌, List, [], ◌∷◌, ◌++◌, Option, Some, None, Result, Ok, Err}
+use Rattle.std.specs.Prelude.{◌⊎◌, ℕ, Bool, true, false, cond, ◌≡◌, List, [], ◌∷◌, ◌++◌, Option, Some, None, Result, Ok, Err}
 use Rattle.std.proofs.Common.{refl, sym, ap, subst, ◌∙◌, inl, inr, ⊎_elim}
 use Rattle.std.specs.List.{list_all}
 use Rattle.std.proofs.lemmas.List.{append_assoc}
@@ -36,7 +36,7 @@ use Rattle.sk_model.specs.Changes.{new_rows}
 use Rattle.sk_model.specs.Replies.{Answer, comes_to, key_read, refusal_in, has_room, key_of, row_put, inserted, updated, deleted, select_answer}
 use Rattle.sk_model.specs.Talks.{OwnCall, Talk, own, or_else, opened}
 use Rattle.sk_model.specs.Asking.{keeper, may_use, first_engine, fault_reply, Rest, Answers, Starves, Asks, IfDone, Opens, read_call, IfRead, Reads, put_call, Puts, Makes, Works, AsksAt, AsksOf, Begins, Asked}
-use Rattle.sk_model.specs.RecordTalks.{Converses, CommitReply, EndReply, EndReplyTo}
+use Rattle.sk_model.specs.RecordTalks.{Converses, CommitReply, EndReply, EndReplyTo, refuses_commit, Outdone, Talks}
 use Rattle.sk_model.proofs.Lists.{Each}
 use Rattle.sk_core.specs.Traces.{In}
 use Rattle.sk_core.proofs.Members.{in_append, in_front}
@@ -219,3 +219,18 @@ module _ (catalog : List Table) (x : Record) (tx : Label) (kind : TxKind) where
         subst (λ (t : Talk). Source (opened Mem t) t s.reply) (sym whole) (widened before h.0 h.1 s.reply (asked_from before s.statement h.0 s.reply e.0 h.3)),
         subst (λ (t : Talk). Each (λ (s : Said). Source (opened Mem t) t s.reply) said) (append_assoc before h.0 h.1 ∙ sym whole) (sources said (before ++ h.0) h.1 e.1 h.5),
       )
+
+refusal_plain : (r : Reply) → refuses_commit r ≡ true → is_plain r ≡ true
+refusal_plain (reply.CheckFailed point mem store) e = refl
+refusal_plain (reply.Spent name) e = refl
+refusal_plain (reply.Refused err.Memory) e = refl
+refusal_plain _ e = absurd cc
+
+-- so each reply that a record has came from its calls, its anchor, or neither
+pub said_sources : (catalog : List Table) (r : Record) (talk : Talk) (talks : Talks catalog r talk) → Each (λ (s : Said). Source (opened Mem talks.spoken) talks.spoken s.reply) r.said
+said_sources catalog r talk talks = from talks.said
+  where
+    from : (r.said ≡ talks.heard) ⊎ Outdone r talks.heard → Each (λ (s : Said). Source (opened Mem talks.spoken) talks.spoken s.reply) r.said
+    from (inl is) = subst (Each (λ (s : Said). Source (opened Mem talks.spoken) talks.spoken s.reply)) (sym is)
+        (sources catalog r r.label r.kind talks.heard [] talks.spoken (subst (Each (EndReply r)) is talks.replies) talks.asked)
+    from (inr o) = subst (Each (λ (s : Said). Source (opened Mem talks.spoken) talks.spoken s.reply)) (sym o.said_is) (Plain (refusal_plain o.refusal o.refuses), tt)
