@@ -4,10 +4,12 @@
 //! so that every later stop leaves a store that opens at the receipt's cut or a later one.
 #![tactic(auto)]
 
+mod laws;
 mod pipeline;
 mod receipts;
 mod text;
 mod writing;
 
+pub use laws::{acked_at_first, acked_when_flushed, acked_when_queued};
 pub use pipeline::{Batch, Pipeline};
-pub use receipts::{Answering, Teller};
+pub use receipts::Teller;

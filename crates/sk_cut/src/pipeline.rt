@@ -5,7 +5,8 @@ ghost use Rattle.sk_outside.specs.Causes.{Rose};
 ghost use Rattle.sk_device.specs.Disk.{Steps};
 ghost use Rattle.sk_cut.specs.Batches.{CanBeSpelled, Refuses, as_cut, same_cut, stored_text, body_text, full_length};
 ghost use Rattle.sk_cut.specs.Flush.{AllAt, AtMostGrows, HasGrown, IsLawful};
-ghost use Rattle.sk_cut.specs.Receipts.{covers, receipt_at, AnswersReceipts};
+ghost use Rattle.sk_cut.specs.Receipts.{covers, receipt_at};
+ghost use Rattle.sk_cut.specs.Acked.{times, labels_of, told, AreOnce};
 ghost use Rattle.sk_model.specs.declared.receipt.FlushFault.TheVariants as fault;
 
 use crate::receipts::{Teller, drop_covered, tell_all};
@@ -50,6 +51,7 @@ impl<D: Device, F: Teller + Drop> Model for Pipeline<D, F> {
     ghost use Rattle.sk_cut.specs.Batches.{as_cut};
     ghost use Rattle.sk_cut.specs.Flush.{AllAt};
     ghost use Rattle.sk_cut.specs.Receipts.{View};
+    ghost use Rattle.sk_cut.specs.Acked.{AreOnce, labels_of};
 
     ghost Value = { View D };
 
@@ -58,7 +60,8 @@ impl<D: Device, F: Teller + Drop> Model for Pipeline<D, F> {
     ghost invariant = { λ s. (s.ends.set < 2)
         × (s.broken ≡ false → IsTrue (D.disk).tells → AllAt D.disk (as_cut s.cut) s.ends s.disk)
         × (vec_len s.waiting + s.reserved ≤ vec_capacity s.waiting)
-        × F.is_true s.tell };
+        × F.is_true s.tell
+        × AreOnce (labels_of s.waiting.items) };
 }
 
 fn same_cut(a: &Point, b: &Point) -> bool
@@ -100,9 +103,10 @@ impl<D: Device, F: Teller + Drop> Pipeline<D, F> {
         Ok(())
     }
 
-    /// Puts a waiter behind the others, in a place that was reserved. It takes no memory.
+    /// Puts a waiter behind the others, in a place that was reserved. Its label does not wait yet. It takes no memory.
     pub fn enqueue(&mut self, need: Need)
-        requires { 0 < self.old.reserved }
+        requires reserved { 0 < self.old.reserved }
+        requires new { times need.label (labels_of self.old.waiting) ≡ 0 }
         ensures { self.new ≡ record self.old { waiting = self.old.waiting ++ need ∷ []; reserved = self.old.reserved - 1 } }
     {
         match self.waiting.push(need) {
@@ -175,8 +179,9 @@ impl<D: Device, F: Teller + Drop> Pipeline<D, F> {
         // Where its cut is the durable one, the disk is left alone, and only memory may be wanting.
         ensures untouched { same_cut batch.now.cut self.old.cut ≡ true → self.new.disk ≡ self.old.disk }
         ensures equal { same_cut batch.now.cut self.old.cut ≡ true → IfErr result (λ e. e ≡ fault.NoMemory) }
-        // Just the waiters that the cut covers are told, in their order.
+        // Just the waiters that the cut covers are told, in their order, each once.
         ensures receipts { IfOk result (λ rs. rs ≡ map (receipt_at batch.now.cut) (filter (covers batch.now.cut) self.old.waiting)) }
+        ensures once { IfOk result (λ rs. AreOnce (told rs)) }
         ensures waiting { OnOk result (self.new.waiting ≡ filter (λ n. not (covers batch.now.cut n)) self.old.waiting) }
         ensures done { OnOk result ((as_cut self.new.cut ≡ as_cut batch.now.cut) × (self.new.broken ≡ false)) }
         // A log is too long exactly by its length, unless memory ran out; and the device fails only where none is.

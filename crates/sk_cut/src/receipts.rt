@@ -32,15 +32,12 @@ pub trait Teller {
         ensures { result ≡ record { label = label; cut = cut } };
 }
 
-/// A closure that answers receipts.
-#[derive(Drop)]
-pub struct Answering<F>(pub F);
-
-impl<F: Fn(Label, Point) -> Receipt> Teller for Answering<F> {
-    ghost is_true = { λ t. F.IsAlwaysCallable t.0 × AnswersReceipts (F.post t.0) };
+/// A closure does, where it answers the receipt of what it is called with.
+impl<F: Fn(Label, Point) -> Receipt> Teller for F {
+    ghost is_true = { λ tell. F.IsAlwaysCallable tell × AnswersReceipts (F.post tell) };
 
     fn receipt(&self, label: Label, cut: Point) -> Receipt {
-        (self.0)(label, cut)
+        self(label, cut)
     }
 }
 

@@ -68,4 +68,4 @@ returns-in-Ok-clause-durable g c =
     subst (λ (e : Ends). AllAt disk (as_cut batch.cut) e c.write_group.new.disk) (sym c.in-Ok.ensures.ends) next
 
 pub invariant_of-self : goal.invariant_of-self
-invariant_of-self g c = (subst (λ (e : Ends). e.set < 2) (sym c.in-Ok.ensures.ends) c.self.invariant.0, λ whole. returns-in-Ok-clause-durable g c, c.self.invariant.2, c.self.invariant.3)
+invariant_of-self g c = (subst (λ (e : Ends). e.set < 2) (sym c.in-Ok.ensures.ends) c.self.invariant.0, λ whole. returns-in-Ok-clause-durable g c, c.self.invariant.2, c.self.invariant.3, c.self.invariant.4)
