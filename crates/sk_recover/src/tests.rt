@@ -234,7 +234,8 @@ fn opens_anew(rt: &impl Abort, alloc: Global, mut disk: MemDevice) -> Result<boo
     assert_eq!(rt; disk.bytes(0), ROOT.as_slice());
     assert_eq!(rt; disk.bytes(2), [0].as_slice());
     assert_eq!(rt; disk.bytes(5), IMAGE.as_slice());
-    Ok(opened.ok().ok_or("a store")?.fresh)
+    let store = opened.ok().ok_or("a store")?;
+    Ok(store.fresh)
 }
 
 #[test]
@@ -253,7 +254,14 @@ fn a_store_opens_whatever_call_of_its_making_fails(rt: HostRuntime) -> Result<()
             }
         }
     }
-    let none_fails = cut_short(alloc, 18, Tear { stands: 0, filler: None })?;
+    let none_fails = cut_short(
+        alloc,
+        18,
+        Tear {
+            stands: 0,
+            filler: None,
+        },
+    )?;
     assert!(rt; !opens_anew(&rt, alloc, none_fails)?);
     Ok(())
 }
