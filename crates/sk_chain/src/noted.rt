@@ -1,6 +1,6 @@
 //! An engine with a journal of its calls.
 
-ghost use Rattle.std.specs.Prelude.{◌≡◌, ◌<◌, [], false, List};
+ghost use Rattle.std.specs.Prelude.{◌≡◌, ◌<◌, [], false, List, length};
 ghost use Rattle.sk_model.specs.declared.call.Entry.{Entry};
 ghost use Rattle.sk_model.specs.Engine.{EngineTable};
 ghost use Rattle.sk_model.specs.Journal.{is_horizon};
@@ -37,6 +37,13 @@ impl<G: Engine + Drop> Noted<G> {
             journal: JournalWriter::new(alloc),
             alloc,
         }
+    }
+
+    /// How many entries the journal has.
+    pub fn entries(&self) -> u64
+        ensures { result ≡ length (journal_of self.now) }
+    {
+        self.journal.len()
     }
 
     /// The engine and its journal.
