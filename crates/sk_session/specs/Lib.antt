@@ -5,3 +5,4 @@ pub mod Speaks
 pub mod Refusals
 pub mod EachTalk
 pub mod Conversing
+pub mod Common
