@@ -1,5 +1,5 @@
 -- What the sessions of a run have in common: the journals of both engines and the registry, and how these answer a call.
-use Rattle.std.specs.Prelude.{◌≡◌, ℕ, ◌≤◌, List, ◌++◌, Ok, Err, true}
+use Rattle.std.specs.Prelude.{◌≡◌, ◌≤◌, List, ◌++◌, Ok, Err, true}
 use Rattle.sk_model.specs.declared.engine.EngineName.{EngineName}
 use Rattle.sk_model.specs.declared.call.Entry.{Entry}
 use Rattle.sk_model.specs.Engine.{EngineTable}
