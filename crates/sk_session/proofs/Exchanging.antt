@@ -88,7 +88,7 @@ stage_asked c (Step StampStore) = refl
 stage_asked c (Leave refused Mem end) = left_asked c.label c.mem
 stage_asked c (Leave refused Store end) = left_asked c.label c.store
 
-wished_asked : (live : Live) (doing : Job) → IsAsked (wished live doing)
+pub wished_asked : (live : Live) (doing : Job) → IsAsked (wished live doing)
 unfolding wish_of
 wished_asked live job.Count = counter_asked (first_engine live.kind)
 wished_asked live (job.Open e n) = asked_on e (call.Open live.label n) refl

@@ -17,6 +17,12 @@ pub mod Keeping
 pub mod Starts
 pub mod Taken
 pub mod Left
+-- what each call leaves of the facts of the transaction, and that it is in order
+pub mod SoFar
+pub mod Answered
+pub mod Stepped
+pub mod Factual
+pub mod Orderly
 -- the talks of all records, and between two lines
 pub mod Recorded
 pub mod Stages
@@ -24,3 +30,6 @@ pub mod Pausing
 -- a statement that is answered with a desk
 pub mod Counting
 pub mod Exchanging
+-- the facts of all transactions
+pub mod Changed
+pub mod Wished

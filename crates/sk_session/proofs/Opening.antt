@@ -93,7 +93,7 @@ works_at catalog tx kind before s t calls r named goes unrefused usable h =
 -- ---- inside a transaction
 
 -- an engine that is to be opened by a statement inside BEGIN is the storage engine, and then the memory engine is open
-only_store : (live : Live) (k : TxKind) (e : EngineName) → may_use k e ≡ true → IsOpen live (first_engine k) → snapshot_of live e ≡ None → (Store ≡ e) × (is_some live.mem ≡ true)
+pub only_store : (live : Live) (k : TxKind) (e : EngineName) → may_use k e ≡ true → IsOpen live (first_engine k) → snapshot_of live e ≡ None → (Store ≡ e) × (is_some live.mem ≡ true)
 only_store live kind.Cross Mem usable first none = let no : is_some live.mem ≡ false = ap is_some none in absurd (cc (first, no))
 only_store live kind.Cross Store usable first none = (refl, first)
 only_store live kind.Mem Mem usable first none = let no : is_some live.mem ≡ false = ap is_some none in absurd (cc (first, no))

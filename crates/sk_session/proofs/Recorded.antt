@@ -20,6 +20,7 @@ use Rattle.sk_session.specs.Speaks.{SpeaksAt, BegunAt, Unmoved, TakeKept, StartK
 use Rattle.sk_session.specs.Starting.{Starts, Takes, Leaves, moved_to, records_now}
 use Rattle.sk_session.proofs.Taken.{takes_keep}
 use Rattle.sk_session.proofs.Left.{starts_keep, leave_keeps}
+use Rattle.sk_session.proofs.Orderly.{starts_orderly, takes_orderly, leaves_orderly}
 use Rattle.sk_session.proofs.Pausing.{standing_talks, paused_talks}
 use Rattle.sk_session.specs.EachTalk.{label_at, EachTalks, LastLive, HasTalks, grown, AnswerFits, call_made, talks_from, StartTalks, TakeTalks, LeaveTalks, IsBetween, TalksNow}
 
@@ -110,9 +111,11 @@ take_at catalog number old (at.Asking live doing) got moved talks kept h fits =
 take_at catalog number old _ got moved talks kept h fits = absurd fits
 
 pub take_talks : (catalog : List Table) (old : Session) (got : Got) (new : Session) (turn : Turn) → Takes catalog old got new turn → TakeTalks catalog old got new
-take_talks catalog old got new turn t talks h fits =
-    subst (λ n. HasTalks catalog n new.records new.at (grown talks (call_made old.at got))) (sym t.number)
-    (take_at catalog old.number old.records old.at got (moved_to new turn) talks (takes_keep catalog old got new turn t) h fits)
+take_talks catalog old got new turn t talks h fits = (
+  subst (λ n. HasTalks catalog n new.records new.at (grown talks (call_made old.at got))) (sym t.number)
+      (take_at catalog old.number old.records old.at got (moved_to new turn) talks (takes_keep catalog old got new turn t) h.0 fits),
+  takes_orderly catalog old got new turn t talks h fits,
+)
 
 -- ---- a statement
 
@@ -139,9 +142,11 @@ start_at catalog number old (at.Stepping live c) moved talks kept h = still_talk
 start_at catalog number old (at.Asking live doing) moved talks kept h = unmoved_talks catalog number old (at.Asking live doing) moved talks kept h
 
 pub start_talks : (catalog : List Table) (old : Session) (s : Option Statement) (new : Session) (turn : Turn) → Starts catalog old s new turn → StartTalks catalog old new
-start_talks catalog old s new turn t talks h =
-    subst (λ n. HasTalks catalog n new.records new.at (talks_from old.at new.at talks)) (sym t.number)
-    (start_at catalog old.number old.records old.at (moved_to new turn) talks (starts_keep catalog old s new turn t) h)
+start_talks catalog old s new turn t talks h = (
+  subst (λ n. HasTalks catalog n new.records new.at (talks_from old.at new.at talks)) (sym t.number)
+      (start_at catalog old.number old.records old.at (moved_to new turn) talks (starts_keep catalog old s new turn t) h.0),
+  starts_orderly catalog old s new turn t talks h,
+)
 
 -- ---- the session is left
 
@@ -153,8 +158,10 @@ leave_at catalog number old (at.Stepping live c) moved talks kept h = unmoved_ta
 leave_at catalog number old (at.Asking live doing) moved talks kept h = unmoved_talks catalog number old (at.Asking live doing) moved talks kept h
 
 pub leave_talks : (old new : Session) (turn : Turn) → Leaves old new turn → LeaveTalks old new
-leave_talks old new turn l catalog talks h =
-    subst (λ n. HasTalks catalog n new.records new.at talks) (sym l.number) (leave_at catalog old.number old.records old.at (moved_to new turn) talks (leave_keeps old new turn l) h)
+leave_talks old new turn l catalog talks h = (
+  subst (λ n. HasTalks catalog n new.records new.at talks) (sym l.number) (leave_at catalog old.number old.records old.at (moved_to new turn) talks (leave_keeps old new turn l) h.0),
+  leaves_orderly old new turn l h.1,
+)
 
 -- ---- between two lines
 
@@ -171,4 +178,4 @@ between catalog number records (at.Stepping live c) talks h is = now_talks catal
 between catalog number records (at.Asking live doing) talks h is = absurd is
 
 pub talks_now : (s : Session) (records : List Record) → records ≡ records_now s → TalksNow s records
-talks_now s records is catalog talks h there = subst (λ rs. EachTalks catalog s.number 1 rs talks) (sym is) (between catalog s.number s.records s.at talks h there)
+talks_now s records is catalog talks h there = subst (λ rs. EachTalks catalog s.number 1 rs talks) (sym is) (between catalog s.number s.records s.at talks h.0 there)

@@ -1,12 +1,16 @@
 -- A session has a talk for each of its records, that of its live transaction too.
-use Rattle.std.specs.Prelude.{◌≡◌, ℕ, ◌+◌, List, [], ◌∷◌, ◌++◌, Bool, true, false, cond, length}
+use Rattle.std.specs.Prelude.{◌≡◌, ℕ, ◌+◌, List, [], ◌∷◌, ◌++◌, None, Bool, true, false, cond, length}
 use Rattle.sk_rows.specs.declared.table.Table.{Table}
+use Rattle.sk_model.specs.declared.engine.EngineName.TheVariants.{Mem, Store}
 use Rattle.sk_model.specs.declared.label.Label.{Label}
 use Rattle.sk_model.specs.declared.record.Record.{Record}
 use Rattle.sk_model.specs.Talks.{Talk}
 use Rattle.sk_model.specs.RecordTalks.{Talks}
 use Rattle.sk_commit.specs.declared.asking.Got.{Got}
 use Rattle.sk_commit.specs.Fits.{WishFits, own_call}
+use Rattle.sk_session.specs.declared.live.Live.{Live}
+use Rattle.sk_session.specs.declared.live.Job.{Job}
+use Rattle.sk_session.specs.declared.live.Job.TheVariants as job
 use Rattle.sk_session.specs.declared.live.At.{At}
 use Rattle.sk_session.specs.declared.live.At.TheVariants as at
 use Rattle.sk_session.specs.declared.session.Session.{Session}
@@ -66,9 +70,29 @@ has_begun _ _ = false
 abbrev pub talks_from : At → At → List Talk → List Talk
 talks_from old new talks = cond (has_begun old new) (talks ++ [] ∷ []) talks
 
+-- a selection stands only where the storage engine is open
+abbrev pub Unselected : Live → Type 0
+Unselected live = live.store ≡ None → live.selected ≡ None
+
+-- or is opened next; and the memory engine is opened first
+abbrev pub OrderlyJob : Live → Job → Type 0
+OrderlyJob live job.Count = (live.store ≡ None) × (live.selected ≡ None)
+OrderlyJob live (job.Open Mem n) = (live.store ≡ None) × (live.selected ≡ None)
+OrderlyJob live (job.Open Store n) = Unit {0}
+OrderlyJob live job.Select = live.selected ≡ None
+OrderlyJob live (job.Read e t key) = Unselected live
+OrderlyJob live (job.Put e writes done r) = Unselected live
+OrderlyJob live (job.Commit c whole own) = Unit {0}
+OrderlyJob live (job.Leave e how r lost) = Unit {0}
+
+abbrev pub IsOrderly : At → Type 0
+IsOrderly (at.Inside live) = Unselected live
+IsOrderly (at.Asking live doing) = OrderlyJob live doing
+IsOrderly _ = Unit {0}
+
 -- these are the talks of the session
 abbrev pub SessionTalks : List Table → Session → List Talk → Type 0
-SessionTalks catalog s talks = HasTalks catalog s.number s.records s.at talks
+SessionTalks catalog s talks = HasTalks catalog s.number s.records s.at talks × IsOrderly s.at
 
 -- a statement keeps the talks of a session; a transaction that begins has made no call
 abbrev pub StartTalks : List Table → Session → Session → Type 0

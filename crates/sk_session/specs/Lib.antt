@@ -6,3 +6,4 @@ pub mod Refusals
 pub mod EachTalk
 pub mod Conversing
 pub mod Common
+pub mod Facts

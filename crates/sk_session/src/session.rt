@@ -5,6 +5,7 @@ ghost use Rattle.sk_session.specs.Moving as spec;
 ghost use Rattle.sk_session.specs.Moving.{Either, InsideTable, StartsInside, OutsideTable, StartsOutside, StartsAt, TakesAt};
 ghost use Rattle.sk_session.specs.EachTalk.{StartTalks, TakeTalks, LeaveTalks, TalksNow};
 ghost use Rattle.sk_session.specs.Conversing.{puts_done};
+ghost use Rattle.sk_session.specs.Facts.{TakeFacts, StartFacts, LeaveFacts, TakeOpens, StartOpens};
 ghost use Rattle.sk_session.specs.Starting.{Starts, Takes, Leaves, StartRefuses, StartKeeps, TakeKeeps, LeaveKeeps, fresh, records_in, records_now};
 ghost use Rattle.sk_model.specs.declared.reply.ErrWord.TheVariants.{Memory};
 ghost use Rattle.std.specs.Option.{option_copied};
@@ -307,7 +308,7 @@ impl Session {
     }
 
     /// Begins to answer a statement, or STEP where there is none.
-    #[tactic(auto, using(crate::proofs::Left::starts_keep, crate::proofs::Refused::refused_by_table, crate::proofs::Recorded::start_talks))]
+    #[tactic(auto, using(crate::proofs::Left::starts_keep, crate::proofs::Refused::refused_by_table, crate::proofs::Changed::start_facts, crate::proofs::Changed::start_opens))]
     pub fn start(&mut self, alloc: Global, catalog: &Catalog, statement: Option<&Statement>) -> Turn
         ensures moves { Starts catalog.now self.old (option_copied statement.entry) self.new result }
 
@@ -319,6 +320,12 @@ impl Session {
 
         // Each record has its talk, as before; a transaction that begins has made no call.
         ensures talks { StartTalks catalog.now self.old self.new }
+
+        // What the records say of their transactions stays; one that begins has the next label, and has done nothing.
+        ensures facts { StartFacts self.old self.new }
+
+        // It asks for no opening.
+        ensures opens { StartOpens catalog.now self.old self.new }
     {
         self.start_statement(alloc, catalog, statement)
     }
@@ -333,7 +340,7 @@ impl Session {
     }
 
     /// Goes on with the answer to the call that it has asked for. Behind the first step of a commit, and as openings are ended, it takes no memory.
-    #[tactic(auto, using(crate::proofs::Taken::takes_keep, crate::proofs::Recorded::take_talks))]
+    #[tactic(auto, using(crate::proofs::Taken::takes_keep, crate::proofs::Changed::take_facts, crate::proofs::Changed::take_opens))]
     pub fn take(&mut self, alloc: Global, catalog: &Catalog, got: Got) -> Turn
         ensures moves { Takes catalog.now self.old got self.new result }
 
@@ -342,6 +349,12 @@ impl Session {
 
         // Each record has its talk, the last one with the call that was made.
         ensures talks { TakeTalks catalog.now self.old got self.new }
+
+        // What the last record says of its transaction changes by what the answer says, and nothing else does.
+        ensures facts { TakeFacts catalog.now self.old got self.new }
+
+        // An opening is asked for right behind the answer that gave its number.
+        ensures opens { TakeOpens catalog.now self.old got self.new }
     {
         self.take_answer(alloc, catalog, got)
     }
@@ -356,7 +369,7 @@ impl Session {
     }
 
     /// Leaves the session: a transaction that is open is rolled back, and no statement of it. It takes no memory.
-    #[tactic(auto, using(crate::proofs::Left::leave_keeps, crate::proofs::Recorded::leave_talks))]
+    #[tactic(auto, using(crate::proofs::Left::leave_keeps))]
     pub fn leave(&mut self, alloc: Global) -> Turn
         ensures moves { Leaves self.old self.new result }
 
@@ -365,6 +378,9 @@ impl Session {
 
         // Each record has its talk, as before.
         ensures talks { LeaveTalks self.old self.new }
+
+        // What the records say of their transactions stays.
+        ensures facts { LeaveFacts self.old self.new }
     {
         self.leave_now(alloc)
     }
