@@ -1,0 +1,6 @@
+-- the registry and all its points
+pub mod Logging
+-- a call of an engine, and its entry
+pub mod Entries
+-- what the sessions share, behind an answer
+pub mod Answering

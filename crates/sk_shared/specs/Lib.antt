@@ -1,0 +1,4 @@
+pub mod Logged
+pub mod Kept
+pub mod Pair
+pub mod Shared

@@ -1,0 +1,9 @@
+//! What the sessions of a run on one thread share: both engines with their journals, and the registry of points.
+#![tactic(auto)]
+
+mod asking;
+mod engines;
+mod point_log;
+mod shared;
+
+pub use shared::Shared;
