@@ -4,3 +4,6 @@ pub mod Logging
 pub mod Entries
 -- what the sessions share, behind an answer
 pub mod Answering
+-- the commits at the end
+pub mod Numbered
+pub mod Order

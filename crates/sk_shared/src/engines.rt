@@ -58,6 +58,15 @@ impl Engines {
         })
     }
 
+    /// The two.
+    pub fn into_parts(self) -> (Noted<MemEngine>, Noted<StoreEngine>)
+        ensures mem { result.0 ≡ self.mem }
+        ensures store { result.1 ≡ self.store }
+    {
+        let Engines { mem, store } = self;
+        (mem, store)
+    }
+
     /// Makes the call of a transaction on the memory engine, and enters it with its reply.
     pub fn ask_mem(&mut self, call: EngineCall) -> Result<EngineReply, Unanswered>
         requires { is_of_transaction call ≡ true }

@@ -3,7 +3,11 @@
 
 mod asking;
 mod engines;
+mod finished;
+mod joining;
 mod point_log;
+mod recording;
 mod shared;
 
+pub use finished::Finished;
 pub use shared::Shared;

@@ -8,7 +8,8 @@ ghost use Rattle.sk_shared.specs.Logged.{Logs, Told};
 
 use sk_commit::{RegistryCall, RegistryReply};
 use sk_points::Points;
-use sk_rows::NoMemory;
+use sk_model::PointList;
+use sk_rows::{List, NoMemory};
 use sk_session::Unanswered;
 use sk_weave::{DrawFault, Point, Registry};
 use std::alloc::Global;
@@ -48,6 +49,14 @@ impl PointLog {
         let mut all = Vec::new(alloc);
         all.push(start)?;
         Ok(PointLog { points, all })
+    }
+
+    /// All points of the run.
+    pub fn into_points(self) -> PointList
+        ensures { result ≡ self.all }
+    {
+        let PointLog { points: _, all } = self;
+        List::from_vec(all)
     }
 
     /// Takes room for the next two points.

@@ -7,9 +7,12 @@ ghost use Rattle.sk_commit.specs.declared.asking.Got.TheVariants as given;
 ghost use Rattle.sk_commit.specs.Fits.{CallFits};
 ghost use Rattle.sk_session.specs.Conversing.{is_of_transaction};
 ghost use Rattle.sk_shared.specs.Kept.{is_close};
+ghost use Rattle.sk_session.specs.Common.{Common};
 ghost use Rattle.sk_shared.specs.Shared.{Stands, Answers, first_common};
+ghost use Rattle.sk_shared.specs.Finished.{IsLeft};
 
 use crate::engines::Engines;
+use crate::finished::Finished;
 use crate::point_log::PointLog;
 use sk_chain::Engine;
 use sk_commit::{Got, Wish};
@@ -23,8 +26,8 @@ use std::alloc::Global;
 /// Both engines with their journals, and the registry with all points of the run: what the sessions of a run on one thread share.
 #[derive(Drop)]
 pub struct Shared {
-    pub engines: Engines,
-    pub log: PointLog,
+    engines: Engines,
+    log: PointLog,
 }
 
 impl Shared {
@@ -42,6 +45,23 @@ impl Shared {
         let engines = Engines::new(alloc, catalog, start.a, start.b)?;
         let log = PointLog::new(alloc, partitions, size, start)?;
         Ok(Shared { engines, log })
+    }
+
+    /// What is left when no session goes on.
+    pub fn into_parts(self) -> Finished
+        ensures { (c : Common) → Stands ⟦<MemEngine as Engine>⟧.stands ⟦<StoreEngine as Engine>⟧.stands self c → IsLeft ⟦<MemEngine as Engine>⟧.stands ⟦<StoreEngine as Engine>⟧.stands result c }
+    {
+        let Shared { engines, log } = self;
+        let (mem, store) = engines.into_parts();
+        let (mem, mem_journal) = mem.into_parts();
+        let (store, store_journal) = store.into_parts();
+        Finished {
+            mem,
+            mem_journal,
+            store,
+            store_journal,
+            points: log.into_points(),
+        }
     }
 
     /// Whether there is room for the point of a commit that begins with this call. So a check seldom finds that there is none.
