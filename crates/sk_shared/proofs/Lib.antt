@@ -1,0 +1,9 @@
+-- the registry and all its points
+pub mod Logging
+-- a call of an engine, and its entry
+pub mod Entries
+-- what the sessions share, behind an answer
+pub mod Answering
+-- the commits at the end
+pub mod Numbered
+pub mod Order
