@@ -1,0 +1,4 @@
+pub mod Held
+pub mod Playing
+pub mod Freshness
+pub mod Running
