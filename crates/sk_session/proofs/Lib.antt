@@ -33,3 +33,5 @@ pub mod Exchanging
 -- the facts of all transactions
 pub mod Changed
 pub mod Wished
+-- the engine that is opened behind its counter
+pub mod Counters

@@ -148,6 +148,12 @@ undrawn_mem true false = refl
 undrawn_mem false true = refl
 undrawn_mem false false = refl
 
+-- the memory engine draws first
+undrawn_yet : (wm ws : Bool) → wm ≡ true → list_any is_draw_store (steps_before DrawMem (commit_steps wm ws)) ≡ false
+undrawn_yet true true e = refl
+undrawn_yet true false e = refl
+undrawn_yet false ws e = absurd cc
+
 undrawn_store : (wm ws : Bool) → list_any is_draw_store (steps_before DrawStore (commit_steps wm ws)) ≡ false
 undrawn_store true true = refl
 undrawn_store true false = refl
@@ -172,7 +178,10 @@ module _ (catalog : List Table) (live : Live) (c : Committing) (own : Option Rep
   stage_fits : (stage : Stage) → IsIn stage → FitsFacts (live_facts live) (wish_in c stage)
   stage_fits (Step CloseMem) w = tt
   stage_fits (Step CloseStore) w = tt
-  stage_fits (Step DrawMem) w = w.drew_mem ∙ none_of c.mem (w.underway.mem_drawn ∙ undrawn_mem c.used.wrote_mem c.used.wrote_store)
+  stage_fits (Step DrawMem) w = (
+    w.drew_mem ∙ none_of c.mem (w.underway.mem_drawn ∙ undrawn_mem c.used.wrote_mem c.used.wrote_store),
+    w.drew_store ∙ none_of c.store (w.underway.store_drawn ∙ undrawn_yet c.used.wrote_mem c.used.wrote_store w.underway.stage),
+  )
   stage_fits (Step DrawStore) w = w.drew_store ∙ none_of c.store (w.underway.store_drawn ∙ undrawn_store c.used.wrote_mem c.used.wrote_store)
   stage_fits (Step Check) w = check_fits w
   stage_fits (Step StampMem) w = tt

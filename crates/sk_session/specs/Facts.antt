@@ -112,7 +112,7 @@ abbrev pub FitsFacts : Facts → Wish → Type 0
 FitsFacts f (wish.Mem (call.Open tx n)) = (f.mem ≡ None) × (f.store ≡ None)
 FitsFacts f (wish.Store (call.Open tx n)) = f.store ≡ None
 FitsFacts f (wish.Reg (reg.Select a)) = (f.mem ≡ Some a) × (f.store ≡ None)
-FitsFacts f (wish.Reg (reg.DrawMem floor)) = f.drew_mem ≡ None
+FitsFacts f (wish.Reg (reg.DrawMem floor)) = (f.drew_mem ≡ None) × (f.drew_store ≡ None)
 FitsFacts f (wish.Reg (reg.DrawStore floor)) = f.drew_store ≡ None
 FitsFacts f (wish.Reg (reg.Check ca cb)) = (f.drew_mem ≡ Some ca) × (f.drew_store ≡ Some cb)
 FitsFacts f _ = Unit {0}

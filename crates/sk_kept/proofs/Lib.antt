@@ -1,0 +1,10 @@
+pub mod Middles
+pub mod Changes
+pub mod Steps
+pub mod Plays
+pub mod Glimpses
+pub mod Founds
+pub mod Numbering
+pub mod Beginning
+pub mod Running
+pub mod Sessions

@@ -1,0 +1,5 @@
+pub mod Held
+pub mod Playing
+pub mod Freshness
+pub mod Running
+pub mod Sessions

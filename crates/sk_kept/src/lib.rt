@@ -1,0 +1,2 @@
+//! What the sessions of a run keep together.
+#![tactic(auto)]
