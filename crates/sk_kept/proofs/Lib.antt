@@ -8,3 +8,5 @@ pub mod Numbering
 pub mod Beginning
 pub mod Running
 pub mod Sessions
+pub mod Ended
+pub mod Beginnings

@@ -3,3 +3,5 @@ pub mod Playing
 pub mod Freshness
 pub mod Running
 pub mod Sessions
+pub mod Ended
+pub mod Beginnings
