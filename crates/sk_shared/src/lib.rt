@@ -11,3 +11,6 @@ mod shared;
 
 pub use finished::Finished;
 pub use shared::Shared;
+
+#[cfg(test)]
+mod tests;

@@ -7,8 +7,8 @@ ghost use Rattle.sk_weave.specs.RegistryLaws.{CanStart};
 ghost use Rattle.sk_shared.specs.Logged.{Logs, Told};
 
 use sk_commit::{RegistryCall, RegistryReply};
-use sk_points::Points;
 use sk_model::PointList;
+use sk_points::Points;
 use sk_rows::{List, NoMemory};
 use sk_session::Unanswered;
 use sk_weave::{DrawFault, Point, Registry};

@@ -10,11 +10,7 @@ use sk_rows::NoMemory;
 use std::alloc::Global;
 
 /// The commits past this number, up to the last one that is decided, in the order of their numbers and with the engine's own number alone. An engine that no longer keeps all of them tells none.
-pub fn recorded<G: Engine>(
-    alloc: Global,
-    engine: &mut G,
-    from: u32,
-) -> Result<CommitList, NoMemory>
+pub fn recorded<G: Engine>(alloc: Global, engine: &mut G, from: u32) -> Result<CommitList, NoMemory>
     requires told { G.told ≡ true }
     requires in_use { IsInUse G.stands engine.old }
     ensures { IfOk result (λ commits. Records G.stands engine.old from commits) }
