@@ -31,7 +31,6 @@ alone_more Has pre t post none h x v w i k a b = ⊎_elim
 
 module _ (first : Point) (points : List Point) (c : Common) (pre : List Trace) (l : Label) (kind : TxKind) (post : List Trace)
     (held : Held first points c (pre ++ post)) (apart : Each (λ (u : Trace). same_label l u.facts.label ≡ false) (pre ++ post)) where
-
   abbrev pub t : Trace
   t = record { facts = fresh_facts l kind; talk = [] }
 

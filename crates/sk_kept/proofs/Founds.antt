@@ -205,7 +205,7 @@ module _ (c d : Common) (pre : List Trace) (t : Trace) (post : List Trace) (aske
       let is : (h.front ≡ front) × (h.last ≡ Some t) = last_is c (pre ++ t ∷ post) seen front t h in
       let since : Since seen t.facts = (subst (λ o. Each (λ (u : Trace). Since seen u.facts) (listed o)) is.1 h.since).0 in
       record {
-            glimpse = glimpse_stays c d pre t post asked got seen asks fits answered ch h.glimpse;
+        glimpse = glimpse_stays c d pre t post asked got seen asks fits answered ch h.glimpse;
         front = front;
         last = Some (trace_after asked got t);
         are = refl;

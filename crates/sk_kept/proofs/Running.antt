@@ -254,7 +254,6 @@ still_since c seen (Some (wish.Reg w)) opens = tt
 
 module _ (first : Point) (points : List Point) (c d : Common) (before : List Member) (m n : Member) (after : List Member) (asked : Wish) (got : Got)
     (running : IsRunning first points c (before ++ m ∷ after)) (takes : Takes m asked got n) (answered : Answered c asked got d) where
-
   member : IsMember c (all_traces (before ++ m ∷ after)) m
   member = each_focus (IsMember c (all_traces (before ++ m ∷ after))) before m after running.members
 
@@ -376,7 +375,6 @@ takes_keep first points c d before m n after asked got running takes answered = 
 
 -- a session that goes on as it is, but for what it asks for
 module _ (first : Point) (points : List Point) (c : Common) (before : List Member) (m n : Member) (after : List Member) (running : IsRunning first points c (before ++ m ∷ after)) (on : AsksOn m n) where
-
   same_traces : traces_in n ≡ traces_in m
   same_traces = ap (λ fs. traces_of fs n.talks) on.facts ∙ ap (traces_of m.facts) on.talks
 
@@ -403,7 +401,6 @@ module _ (first : Point) (points : List Point) (c : Common) (before : List Membe
 
 -- a session in which a transaction begins
 module _ (first : Point) (points : List Point) (c : Common) (before : List Member) (m n : Member) (after : List Member) (running : IsRunning first points c (before ++ m ∷ after)) (begins : Begins m n) where
-
   abbrev label : Label
   label = record { session = m.number; k = length m.facts + 1 }
 

@@ -254,7 +254,6 @@ live_last catalog s talks live doing e h front f is = go (subst (λ there. HasTa
 
 module _ (catalog : List Table) (old : Session) (talks : List Talk) (got : Got) (new : Session) (t : Turn) (live : Live) (doing : Job) (is : old.at ≡ at.Asking live doing)
     (h : SessionTalks catalog old talks) (takes : Takes catalog old got new t) (fits : WishFits (wished live doing) got) where
-
   abbrev pub asked : Wish
   asked = wished live doing
 
@@ -399,7 +398,6 @@ map_append f [] x ys = refl
 map_append f (z ∷ zs) x ys = ap (λ rest. f z ∷ rest) (map_append f zs x ys)
 
 module _ {D : Type 0} (answers : D → Wish → Got → D → Type 0) (stands : D → Common → Type 0) (right : AnswersRight answers stands) (catalog : List Table) (first : Point) (before after : List Player) where
-
   abbrev with_session : Session → List Talk → List Player
   with_session s talks = before ++ record { session = s; talks = talks } ∷ after
 
@@ -442,15 +440,17 @@ module _ {D : Type 0} (answers : D → Wish → Got → D → Type 0) (stands : 
       let then : GoesOn stands catalog first (points ++ call.0) a.0 before end after desk × TurnAt end.at last =
       rest (points ++ call.0) a.0 x.3 x.4 (grown talks (own_call (wished live doing) e.got)) x.5 x.8
       (take_turn catalog s talks e.got x.3 x.4 live doing is has.1 fits x.2 takes) a.2
-      (run_of (points ++ call.0) a.0 x.3 (grown talks (own_call (wished live doing) e.got)) call.1 has.0 (talks_grow catalog s talks e.got x.3 x.4 live doing is has.1 takes fits)) in
-      (record {
-        common = then.0.common;
-        stood = then.0.stood;
-        begun = then.0.begun ∙ a.1.first;
-        more = call.0 ++ then.0.more;
-        talks = then.0.talks;
-        run = subst (λ ps. IsRun catalog first ps then.0.common (with_session end then.0.talks)) (append_assoc points call.0 then.0.more) then.0.run;
-      }, then.1)
+      (run_of (points ++ call.0) a.0 x.3 (grown talks (own_call (wished live doing) e.got)) call.1 has.0 (talks_grow catalog s talks e.got x.3 x.4 live doing is has.1 takes fits)) in (
+        record {
+          common = then.0.common;
+          stood = then.0.stood;
+          begun = then.0.begun ∙ a.1.first;
+          more = call.0 ++ then.0.more;
+          talks = then.0.talks;
+          run = subst (λ ps. IsRun catalog first ps then.0.common (with_session end then.0.talks)) (append_assoc points call.0 then.0.more) then.0.run;
+        },
+        then.1,
+      )
     where
       asks_same : turn.Ask e.wish ≡ turn.Ask (wished live doing) → e.wish ≡ wished live doing
       asks_same q = cc

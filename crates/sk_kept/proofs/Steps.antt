@@ -54,7 +54,6 @@ draws_of Store h = h.drew_store
 module _ (first : Point) (points : List Point) (c d : Common) (pre : List Trace) (t : Trace) (post : List Trace) (asked : Wish) (got : Got)
     (held : Held first points c (pre ++ t ∷ post)) (answered : Answered c asked got d) (fits : WishFits asked got) (may : MayOpen c.regs t.facts asked)
     (calls : AreBy t.facts.label (own_call asked got)) (apart : (u : Trace) → In u (pre ++ post) → same_label t.facts.label u.facts.label ≡ false) where
-
   abbrev pub u : Trace
   u = trace_after asked got t
 
