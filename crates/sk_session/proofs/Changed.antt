@@ -22,7 +22,8 @@ use Rattle.sk_session.specs.declared.session.Session.{Session}
 use Rattle.sk_session.specs.Moving.{record_now, with_last, place_of, label_after, begun, begins, TakesAt, StartsAt, leave_at}
 use Rattle.sk_session.specs.Starting.{Starts, Takes, Leaves, moved_to}
 use Rattle.sk_session.specs.EachTalk.{LastLive, HasTalks, IsOrderly, AnswerFits, has_begun}
-use Rattle.sk_session.specs.Facts.{Facts, facts_of, so_far, facts_taken, last_changed, BegunFacts, TakeFacts, StartFacts, LeaveFacts, OpensBy, OpensAt, TakeOpens, IsOpening, StartOpens}
+use Rattle.sk_session.specs.Facts.{Facts, facts_of, facts_taken, last_changed, BegunFacts, TakeFacts, StartFacts, LeaveFacts, OpensBy, OpensAt, TakeOpens, IsOpening, StartOpens}
+use Rattle.sk_session.specs.SoFar.{so_far}
 use Rattle.sk_session.proofs.SoFar.{live_facts, HasFacts, same_move, give_up_has}
 use Rattle.sk_session.proofs.Factual.{taken_has, before_of, inside_said, stepping_said, unasked}
 use Rattle.sk_session.proofs.Orderly.{BeginsOrRests, resting_moves}

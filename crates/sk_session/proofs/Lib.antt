@@ -30,6 +30,13 @@ pub mod Pausing
 -- a statement that is answered with a desk
 pub mod Counting
 pub mod Exchanging
+pub mod Conversed
 -- the facts of all transactions
 pub mod Changed
 pub mod Wished
+-- what was printed
+pub mod Used
+pub mod Lines
+pub mod Replying
+pub mod Hearing
+pub mod Printing

@@ -24,7 +24,8 @@ use Rattle.sk_session.specs.declared.live.Job.TheVariants as job
 use Rattle.sk_session.specs.declared.live.At.{At}
 use Rattle.sk_session.specs.declared.live.At.TheVariants as at
 use Rattle.sk_session.specs.declared.session.Session.{Session}
-use Rattle.sk_session.specs.Moving.{with_last, record_now, wished}
+use Rattle.sk_session.specs.Moving.{wished}
+use Rattle.sk_session.specs.SoFar.{records_so_far}
 use Rattle.sk_session.specs.EachTalk.{label_at, SessionTalks, AnswerFits, has_begun}
 use Rattle.sk_session.specs.Conversing.{IsAsked}
 
@@ -39,17 +40,6 @@ pub record Facts : Type 0 where
 
 abbrev pub facts_of : Record → Facts
 facts_of r = record { label = r.label; kind = r.kind; mem = r.mem; store = r.store; drew_mem = r.drew_mem; drew_store = r.drew_store; made = r.made }
-
--- the records, that of a live transaction too as far as it has come, also while it waits for an answer
-abbrev pub so_far : List Record → At → List Record
-so_far records at.Outside = records
-so_far records (at.Inside live) = with_last records (record_now live)
-so_far records (at.Stepping live c) = with_last records (record_now live)
-so_far records at.Ended = records
-so_far records (at.Asking live doing) = with_last records (record_now live)
-
-abbrev pub records_so_far : Session → List Record
-records_so_far s = so_far s.records s.at
 
 -- the facts of all transactions of a session, in order
 abbrev pub facts_in : Session → List Facts
