@@ -119,8 +119,8 @@ none_opened : (there now : At) → OpensAt at.Outside unasked now → IsOpening 
 none_opened there (at.Asking live (job.Open e n)) o is = by e live.mem o
   where
     by : (x : EngineName) (mem : Option ℕ) → OpensBy at.Outside unasked mem x n → at.Asking live (job.Open e n) ≡ there
-    by Mem mem (a, b, c) = absurd cc
-    by Store None (a, b, c) = absurd cc
+    by Mem mem (a, b, c, d) = absurd cc
+    by Store None (a, b, c, d) = absurd cc
     by Store (Some m) (a, b, c, d, f) = absurd cc
 none_opened there _ o is = absurd is
 
