@@ -40,3 +40,4 @@ pub mod Lines
 pub mod Replying
 pub mod Hearing
 pub mod Printing
+mod PrintedExamples
