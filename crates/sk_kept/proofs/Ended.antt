@@ -25,7 +25,8 @@ use Rattle.sk_session.specs.declared.session.Session.{Session as Speaker}
 use Rattle.sk_session.specs.EachTalk.{EachTalks, SessionTalks, IsBetween}
 use Rattle.sk_session.specs.Starting.{records_now}
 use Rattle.sk_session.specs.Moving.{records_at}
-use Rattle.sk_session.specs.Facts.{facts_of, facts_in, so_far}
+use Rattle.sk_session.specs.SoFar.{so_far}
+use Rattle.sk_session.specs.Facts.{facts_of, facts_in}
 use Rattle.sk_session.specs.Common.{Common}
 use Rattle.sk_session.proofs.Recorded.{talks_now}
 use Rattle.sk_kept.specs.Held.{Trace, Held}

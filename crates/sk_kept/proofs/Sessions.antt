@@ -48,12 +48,12 @@ use Rattle.sk_session.specs.Moving.{on, counter_wish, put_wish, wished, record_n
 use Rattle.sk_session.specs.Starting.{Starts, Takes, moved_to}
 use Rattle.sk_session.specs.Speaks.{SpeaksAt, BegunAt, StartKept, TakeKept}
 use Rattle.sk_session.specs.EachTalk.{label_at, LastLive, HasTalks, SessionTalks, grown, has_begun, talks_from, AnswerFits, call_made, IsBetween}
-use Rattle.sk_session.specs.Facts.{Facts, facts_of, facts_in, facts_after, last_changed, fresh_facts, so_far, BegunFacts, AreBy, FitsFacts, AsksFor, AsksAt, OpensBy, OpensAt, IsOpening, facts_taken}
+use Rattle.sk_session.specs.Facts.{Facts, facts_of, facts_in, facts_after, last_changed, fresh_facts, BegunFacts, AreBy, FitsFacts, AsksFor, AsksAt, OpensBy, OpensAt, IsOpening, facts_taken}
+use Rattle.sk_session.specs.SoFar.{so_far}
 use Rattle.sk_session.specs.Conversing.{is_early, Exchange, calls_made, Exchanges, HasExchanged, Conversed}
 use Rattle.sk_session.specs.Common.{Common, Answered}
 use Rattle.sk_session.proofs.Recorded.{grown_seam, start_talks, take_talks}
 use Rattle.sk_session.proofs.Changed.{last_facts, take_facts, take_opens, start_facts, start_opens}
-use Rattle.sk_session.proofs.Counters.{counted_engine}
 use Rattle.sk_session.proofs.Wished.{asks_right}
 use Rattle.sk_session.proofs.Counting.{job_left, Within, starts_within}
 use Rattle.sk_session.proofs.Exchanging.{takes_left}
@@ -281,24 +281,24 @@ module _ (catalog : List Table) (old : Session) (talks : List Talk) (got : Got) 
   next_fits : AsksNext gained (waited new.at)
   next_fits = asks_next catalog new grows talks_grow asks.before gained facts_grow
 
-  counts_at : (x : Live) → old.at ≡ at.Asking x job.Count → (then : Live) (e : EngineName) (n : ℕ) → new.at ≡ at.Asking then (job.Open e n) → asked ≡ counter_wish e
-  counts_at x c then e n o =
+  counts_at : (x : Live) (e : EngineName) → old.at ≡ at.Asking x job.Count → first_engine x.kind ≡ e → asked ≡ counter_wish e
+  counts_at x e c is_first =
       let same : at.Asking live doing ≡ at.Asking x job.Count = sym is ∙ c in
-      ap (λ there. asked_at there) same ∙ ap counter_wish (counted_engine catalog old got new t x then e n takes c o)
+      ap (λ there. asked_at there) same ∙ ap counter_wish is_first
 
   opens_by : (there : At) → new.at ≡ there → OpensAt old.at got there → OpensNext asked got gained (waited there)
   opens_by at.Outside e o = tt
   opens_by (at.Inside x) e o = tt
   opens_by (at.Stepping x c) e o = tt
   opens_by at.Ended e o = tt
-  opens_by (at.Asking x (job.Open Mem n)) e o = (counts_at o.0 o.1 x Mem n e, o.2, (subst (λ there. AsksNext gained (waited there)) e next_fits).1)
+  opens_by (at.Asking x (job.Open Mem n)) e o = (counts_at o.0 Mem o.1 o.2, o.3, (subst (λ there. AsksNext gained (waited there)) e next_fits).1)
   opens_by (at.Asking x (job.Open Store n)) e o = by x.mem refl o
     where
       mem_is : gained.mem ≡ x.mem
       mem_is = ap (λ (f : Facts). f.mem) (live_last catalog new grows x (job.Open Store n) e talks_grow asks.before gained facts_grow)
 
       by : (m : Option ℕ) → x.mem ≡ m → OpensBy old.at got m Store n → OpensNext asked got gained (Some (wish.Store (call.Open x.label n)))
-      by None none k = inl (counts_at k.0 k.1 x Store n e, k.2, mem_is ∙ none)
+      by None none k = inl (counts_at k.0 Store k.1 k.2, k.3, mem_is ∙ none)
       by (Some a) some k =
           let same : at.Asking live doing ≡ at.Asking k.0 job.Select = sym is ∙ k.2 in
           let chosen : asked ≡ wish.Reg (reg.Select (number_or_none k.0.mem)) = ap (λ there. asked_at there) same in

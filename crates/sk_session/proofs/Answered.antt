@@ -42,12 +42,12 @@ module _ (catalog : List Table) (records : List Record) (live : Live) where
   abbrev Has : Job → Got → Live → Moved → Type 0
   Has doing got new moved = HasFacts (at.Asking live doing) got (Before live doing) records (live_facts new) moved
 
-  opening : (n : ℕ) (e : EngineName) → Before live job.Count → OpensAt (at.Asking live job.Count) (given.Reg (told.Number n)) (at.Asking live (job.Open e n))
-  opening n Mem b = (live, refl, refl)
-  opening n Store b = by live.mem b.0
+  opening : (n : ℕ) (e : EngineName) → first_engine live.kind ≡ e → Before live job.Count → OpensAt (at.Asking live job.Count) (given.Reg (told.Number n)) (at.Asking live (job.Open e n))
+  opening n Mem is b = (live, refl, is, refl)
+  opening n Store is b = by live.mem b.0
     where
       by : (mem : Option ℕ) → mem ≡ None → OpensAt (at.Asking live job.Count) (given.Reg (told.Number n)) (at.Asking (record live { mem = mem }) (job.Open Store n))
-      by None none = (live, refl, refl)
+      by None none = (live, refl, is, refl)
       by (Some a) none = absurd cc
 
   in_order : (n : ℕ) (e : EngineName) → Before live job.Count → OrderlyJob live (job.Open e n)
@@ -55,7 +55,7 @@ module _ (catalog : List Table) (records : List Record) (live : Live) where
   in_order n Store b = tt
 
   count_has : (got : Got) → Has job.Count got live (count_goes records live got)
-  count_has (given.Reg (told.Number n)) = asks_has _ _ _ records live (job.Open (first_engine live.kind) n) _ (in_order n (first_engine live.kind)) (opening n (first_engine live.kind))
+  count_has (given.Reg (told.Number n)) = asks_has _ _ _ records live (job.Open (first_engine live.kind) n) _ (in_order n (first_engine live.kind)) (opening n (first_engine live.kind) refl)
   count_has _ = starve_has _ _ _ records live
 
   opened_order : (e : EngineName) (n : ℕ) → Before live (job.Open e n) → Unselected (opened_at live e n)

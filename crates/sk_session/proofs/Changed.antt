@@ -22,7 +22,8 @@ use Rattle.sk_session.specs.declared.session.Session.{Session}
 use Rattle.sk_session.specs.Moving.{record_now, with_last, place_of, label_after, begun, begins, TakesAt, StartsAt, leave_at}
 use Rattle.sk_session.specs.Starting.{Starts, Takes, Leaves, moved_to}
 use Rattle.sk_session.specs.EachTalk.{LastLive, HasTalks, IsOrderly, AnswerFits, has_begun}
-use Rattle.sk_session.specs.Facts.{Facts, facts_of, so_far, facts_taken, last_changed, BegunFacts, TakeFacts, StartFacts, LeaveFacts, OpensBy, OpensAt, TakeOpens, IsOpening, StartOpens}
+use Rattle.sk_session.specs.Facts.{Facts, facts_of, facts_taken, last_changed, BegunFacts, TakeFacts, StartFacts, LeaveFacts, OpensBy, OpensAt, TakeOpens, IsOpening, StartOpens}
+use Rattle.sk_session.specs.SoFar.{so_far}
 use Rattle.sk_session.proofs.SoFar.{live_facts, HasFacts, same_move, give_up_has}
 use Rattle.sk_session.proofs.Factual.{taken_has, before_of, inside_said, stepping_said, unasked}
 use Rattle.sk_session.proofs.Orderly.{BeginsOrRests, resting_moves}
@@ -118,8 +119,8 @@ none_opened : (there now : At) → OpensAt at.Outside unasked now → IsOpening 
 none_opened there (at.Asking live (job.Open e n)) o is = by e live.mem o
   where
     by : (x : EngineName) (mem : Option ℕ) → OpensBy at.Outside unasked mem x n → at.Asking live (job.Open e n) ≡ there
-    by Mem mem (a, b, c) = absurd cc
-    by Store None (a, b, c) = absurd cc
+    by Mem mem (a, b, c, d) = absurd cc
+    by Store None (a, b, c, d) = absurd cc
     by Store (Some m) (a, b, c, d, f) = absurd cc
 none_opened there _ o is = absurd is
 

@@ -32,6 +32,8 @@ use Rattle.sk_session.specs.Moving.{on, counter_wish, put_wish, wished, TakesAt}
 use Rattle.sk_session.specs.Starting.{Starts, Takes, moved_to}
 use Rattle.sk_session.specs.EachTalk.{grown, talks_from, SessionTalks, call_made, AnswerFits}
 use Rattle.sk_session.specs.Conversing.{is_early, is_of_transaction, IsAsked, puts_done, Exchange, calls_made, Exchanges, HasExchanged}
+use Rattle.sk_session.specs.Printed.{seat_at, said_so_far, Speaking}
+use Rattle.sk_session.proofs.Printing.{start_prints, take_prints}
 use Rattle.sk_session.proofs.Recorded.{start_talks, take_talks, grown_none}
 use Rattle.sk_session.proofs.Counting.{Within, job_left, Counts, all_bounded, falls, takes_within, turns_left, left_less, some_left}
 
@@ -156,6 +158,7 @@ module _ {D : Type 0} (answers : D → Wish → Got → D → Type 0) (catalog :
     made = [];
     goes = (refl, refl, refl);
     talks = λ talks h. subst (SessionTalks catalog new) (sym (grown_none (talks_from old.at new.at talks))) (start_talks catalog old s new t starts talks h);
+    says = start_prints catalog old s new t starts;
   }
 
   -- and goes on with one more call
@@ -176,4 +179,7 @@ module _ {D : Type 0} (answers : D → Wish → Got → D → Type 0) (catalog :
             ∙ grown_twice (talks_from old.at c.first.at talks) (calls_made c.made) (own_call w got)
             ∙ ap (grown (talks_from old.at c.first.at talks)) (sym (calls_snoc c.made (record { wish = w; got = got }))))
             (take_talks catalog now got new asked takes (grown (talks_from old.at c.first.at talks) (calls_made c.made)) (c.talks talks h) (answer_fits most n now.at w got here fits));
+        says = λ clear.
+            take_prints catalog now got new asked takes (seat_at old.at) s (said_so_far old)
+            (subst (Speaking (seat_at old.at) s (said_so_far old) now) is (c.says clear)) (answer_fits most n now.at w got here fits);
       }

@@ -30,8 +30,14 @@ pub mod Pausing
 -- a statement that is answered with a desk
 pub mod Counting
 pub mod Exchanging
+pub mod Conversed
 -- the facts of all transactions
 pub mod Changed
 pub mod Wished
--- the engine that is opened behind its counter
-pub mod Counters
+-- what was printed
+pub mod Used
+pub mod Lines
+pub mod Replying
+pub mod Hearing
+pub mod Printing
+mod PrintedExamples

@@ -23,7 +23,8 @@ use Rattle.sk_session.specs.declared.live.At.TheVariants as at
 use Rattle.sk_session.specs.declared.live.Moved.{Moved}
 use Rattle.sk_session.specs.Moving.{record_of, record_now, with_last, asks, finish, drops, first_opened, give_up, lose, starve, goes_well, closes, heard, hears, say, put_at, put_next, read_now, read_by, read_for, behind_open, answer_now, answer_by, rows_come, fault_at_read, commits, Either}
 use Rattle.sk_session.specs.EachTalk.{Unselected, OrderlyJob, IsOrderly}
-use Rattle.sk_session.specs.Facts.{Facts, facts_of, so_far, OpensAt}
+use Rattle.sk_session.specs.Facts.{Facts, facts_of, OpensAt}
+use Rattle.sk_session.specs.SoFar.{so_far}
 
 -- the facts of a live transaction so far
 abbrev pub live_facts : Live → Facts

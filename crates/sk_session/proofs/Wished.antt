@@ -38,7 +38,8 @@ use Rattle.sk_session.specs.declared.session.Session.{Session}
 use Rattle.sk_session.specs.Moving.{snapshot_of, on, counter_wish, put_wish, wished, record_now, with_last}
 use Rattle.sk_session.specs.Speaks.{Commits, JobSpeaks}
 use Rattle.sk_session.specs.EachTalk.{OrderlyJob, IsOrderly, HasTalks}
-use Rattle.sk_session.specs.Facts.{Facts, facts_of, so_far, FitsFacts, AreBy, AsksAt, AsksRight}
+use Rattle.sk_session.specs.Facts.{Facts, facts_of, FitsFacts, AreBy, AsksAt, AsksRight}
+use Rattle.sk_session.specs.SoFar.{so_far}
 use Rattle.sk_session.proofs.Waiting.{has_anchor}
 use Rattle.sk_session.proofs.SoFar.{live_facts}
 use Rattle.sk_session.proofs.Changed.{last_facts}

@@ -21,6 +21,7 @@ use Rattle.sk_session.specs.declared.live.At.{At}
 use Rattle.sk_session.specs.declared.live.At.TheVariants as at
 use Rattle.sk_session.specs.Starting.{Starts, Takes}
 use Rattle.sk_session.specs.EachTalk.{grown, talks_from, SessionTalks}
+use Rattle.sk_session.specs.Printed.{seat_at, said_so_far, IsClear, Speaking}
 
 -- a draw came too early: the counter stood below the floor
 abbrev pub is_early : Got → Bool
@@ -65,7 +66,7 @@ module _ {D : Type 0} (answers : D → Wish → Got → D → Type 0) (catalog :
       × (next : Session) × (then : Turn) × (desk : D) × answers d x.wish x.got desk × Takes catalog s x.got next then × Exchanges next then desk xs s_end t_end d_end
 
 -- A statement, or STEP, is being answered: the session began with it, and has asked the desk for these calls. Each record has its talk, as
--- before, the last one with the calls that were made.
+-- before, the last one with the calls that were made; and the line is answered as its records say.
 pub record HasExchanged {D : Type 0} (answers : D → Wish → Got → D → Type 0) (catalog : List Table) (old : Session) (desk : D) (s : Option Statement) (now : Session) (t : Turn) (after : D) : Type 0 where
   pub first : Session
   pub asked : Turn
@@ -73,6 +74,7 @@ pub record HasExchanged {D : Type 0} (answers : D → Wish → Got → D → Typ
   pub made : List Exchange
   pub goes : Exchanges answers catalog first asked desk made now t after
   pub talks : (talks : List Talk) → SessionTalks catalog old talks → SessionTalks catalog now (grown (talks_from old.at first.at talks) (calls_made made))
+  pub says : IsClear old.records old.at → Speaking (seat_at old.at) s (said_so_far old) now t
 
 -- it was answered
 abbrev pub Conversed : {D : Type 0} → (D → Wish → Got → D → Type 0) → List Table → Session → D → Option Statement → Session → D → Reply → Type 0

@@ -10,6 +10,7 @@ use Rattle.sk_model.specs.declared.record.TxKind.{TxKind}
 use Rattle.sk_model.specs.declared.record.Record.{Record}
 use Rattle.sk_model.specs.declared.call.EngineCall.TheVariants as call
 use Rattle.sk_model.specs.declared.call.EngineReply.TheVariants as answer
+use Rattle.sk_model.specs.Asking.{first_engine}
 use Rattle.sk_model.specs.Talks.{OwnCall, Talk, tx_of}
 use Rattle.sk_weave.specs.declared.answer.Selected.{Selected}
 use Rattle.sk_commit.specs.declared.asking.RegistryCall.TheVariants as reg
@@ -24,7 +25,8 @@ use Rattle.sk_session.specs.declared.live.Job.TheVariants as job
 use Rattle.sk_session.specs.declared.live.At.{At}
 use Rattle.sk_session.specs.declared.live.At.TheVariants as at
 use Rattle.sk_session.specs.declared.session.Session.{Session}
-use Rattle.sk_session.specs.Moving.{with_last, record_now, wished}
+use Rattle.sk_session.specs.Moving.{wished}
+use Rattle.sk_session.specs.SoFar.{records_so_far}
 use Rattle.sk_session.specs.EachTalk.{label_at, SessionTalks, AnswerFits, has_begun}
 use Rattle.sk_session.specs.Conversing.{IsAsked}
 
@@ -39,17 +41,6 @@ pub record Facts : Type 0 where
 
 abbrev pub facts_of : Record → Facts
 facts_of r = record { label = r.label; kind = r.kind; mem = r.mem; store = r.store; drew_mem = r.drew_mem; drew_store = r.drew_store; made = r.made }
-
--- the records, that of a live transaction too as far as it has come, also while it waits for an answer
-abbrev pub so_far : List Record → At → List Record
-so_far records at.Outside = records
-so_far records (at.Inside live) = with_last records (record_now live)
-so_far records (at.Stepping live c) = with_last records (record_now live)
-so_far records at.Ended = records
-so_far records (at.Asking live doing) = with_last records (record_now live)
-
-abbrev pub records_so_far : Session → List Record
-records_so_far s = so_far s.records s.at
 
 -- the facts of all transactions of a session, in order
 abbrev pub facts_in : Session → List Facts
@@ -139,18 +130,18 @@ AsksAt all _ = Unit {0}
 abbrev pub AsksRight : List Table → Session → Type 0
 AsksRight catalog s = (talks : List Talk) → SessionTalks catalog s talks → AsksAt (facts_in s) s.at
 
--- the opening of the memory engine is at its counter, which was asked for right before, and so is that of the storage engine in a
--- transaction that has not opened the memory engine
-abbrev pub OpensCounted : At → Got → ℕ → Type 0
-OpensCounted old got n = (live : Live) × (old ≡ at.Asking live job.Count) × (got ≡ given.Reg (told.Number n))
+-- the opening of the memory engine is at its counter, which was asked for right before, and so is that of the storage engine, at its own
+-- counter, in a transaction that has not opened the memory engine
+abbrev pub OpensCounted : At → Got → EngineName → ℕ → Type 0
+OpensCounted old got e n = (live : Live) × (old ≡ at.Asking live job.Count) × (first_engine live.kind ≡ e) × (got ≡ given.Reg (told.Number n))
 
 -- the opening of the storage engine behind that of the memory engine is at the snapshot that was selected right before
 abbrev pub OpensSelected : At → Got → ℕ → Type 0
 OpensSelected old got n = (live : Live) × (s : Selected) × (old ≡ at.Asking live job.Select) × (got ≡ given.Reg (told.Selected s)) × (n ≡ s.b)
 
 abbrev pub OpensBy : At → Got → Option ℕ → EngineName → ℕ → Type 0
-OpensBy old got mem Mem n = OpensCounted old got n
-OpensBy old got None Store n = OpensCounted old got n
+OpensBy old got mem Mem n = OpensCounted old got Mem n
+OpensBy old got None Store n = OpensCounted old got Store n
 OpensBy old got (Some a) Store n = OpensSelected old got n
 
 abbrev pub OpensAt : At → Got → At → Type 0

@@ -6,4 +6,6 @@ pub mod Refusals
 pub mod EachTalk
 pub mod Conversing
 pub mod Common
+pub mod SoFar
 pub mod Facts
+pub mod Printed

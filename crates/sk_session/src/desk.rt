@@ -6,6 +6,7 @@ ghost use Rattle.sk_commit.specs.declared.asking.Wish.{Wish as AnyWish};
 ghost use Rattle.sk_commit.specs.declared.asking.Got.{Got as AnyGot};
 ghost use Rattle.sk_commit.specs.Fits.{WishFits};
 ghost use Rattle.sk_session.specs.Conversing.{is_early, IsAsked, Conversed};
+ghost use Rattle.sk_session.specs.Printed.{LinePrints};
 
 use crate::session::Session;
 use crate::turn::Turn;
@@ -39,7 +40,10 @@ pub fn converse<K: Desk>(
     desk: &mut K,
     statement: Option<&Statement>,
 ) -> Result<Reply, Unanswered>
-    ensures { IfOk result (λ said. Conversed K.answers catalog.now session.old desk.old (option_copied statement.entry) session.new desk.new said) }
+    ensures calls { IfOk result (λ said. Conversed K.answers catalog.now session.old desk.old (option_copied statement.entry) session.new desk.new said) }
+
+    // What was printed so far and is printed now is what the records say.
+    ensures prints { IfOk result (λ said. LinePrints session.old (option_copied statement.entry) session.new said) }
 {
     let mut turn = session.start(alloc, catalog, statement);
     loop {

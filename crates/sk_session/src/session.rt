@@ -6,6 +6,7 @@ ghost use Rattle.sk_session.specs.Moving.{Either, InsideTable, StartsInside, Out
 ghost use Rattle.sk_session.specs.EachTalk.{StartTalks, TakeTalks, LeaveTalks, TalksNow};
 ghost use Rattle.sk_session.specs.Conversing.{puts_done};
 ghost use Rattle.sk_session.specs.Facts.{TakeFacts, StartFacts, LeaveFacts, TakeOpens, StartOpens};
+ghost use Rattle.sk_session.specs.Printed.{HasPrinted, StartPrints, TakePrints, LeavePrints};
 ghost use Rattle.sk_session.specs.Starting.{Starts, Takes, Leaves, StartRefuses, StartKeeps, TakeKeeps, LeaveKeeps, fresh, records_in, records_now};
 ghost use Rattle.sk_model.specs.declared.reply.ErrWord.TheVariants.{Memory};
 ghost use Rattle.std.specs.Option.{option_copied};
@@ -272,8 +273,12 @@ fn leave_at(records: RecordList, at: At) -> Moved
 
 impl Session {
     /// A session of this number, which has had no transaction.
+    #[tactic(auto, using(crate::proofs::Printing::new_printed))]
     pub fn new(alloc: Global, number: u16) -> Session
-        ensures { result ≡ fresh number }
+        ensures value { result ≡ fresh number }
+
+        // It was told no line.
+        ensures prints { HasPrinted [] result }
     {
         Session {
             number,
@@ -326,6 +331,9 @@ impl Session {
 
         // It asks for no opening.
         ensures opens { StartOpens catalog.now self.old self.new }
+
+        // Its records say what they said, until the line is answered.
+        ensures prints { StartPrints self.old (option_copied statement.entry) self.new result }
     {
         self.start_statement(alloc, catalog, statement)
     }
@@ -355,6 +363,9 @@ impl Session {
 
         // An opening is asked for right behind the answer that gave its number.
         ensures opens { TakeOpens catalog.now self.old got self.new }
+
+        // Its records say what they said, until the line is answered; then they say what the line adds.
+        ensures prints { TakePrints self.old got self.new result }
     {
         self.take_answer(alloc, catalog, got)
     }
@@ -381,6 +392,9 @@ impl Session {
 
         // What the records say of their transactions stays.
         ensures facts { LeaveFacts self.old self.new }
+
+        // Leaving adds no statement.
+        ensures prints { LeavePrints self.old self.new result }
     {
         self.leave_now(alloc)
     }

@@ -1,12 +1,13 @@
--- Each answer is one exchange more, and leaves fewer calls.
+-- Each answer is one exchange more, and leaves fewer calls; with the reply the line is one line more of the session.
 use Rattle.std.specs.Prelude.{◌+◌, ◌<◌}
 use Rattle.std.specs.Option.{option_copied}
 use Rattle.std.proofs.Common.{sym, subst, arith}
 use Rattle.sk_session.specs.declared.turn.Turn.{Turn}
 use Rattle.sk_session.specs.declared.turn.Turn.TheVariants.{Ask}
-use Rattle.sk_session.specs.Conversing.{puts_done}
+use Rattle.sk_session.specs.Conversing.{puts_done, HasExchanged}
 use Rattle.sk_session.proofs.Counting.{most_puts, Within, starts_within, turns_left}
 use Rattle.sk_session.proofs.Exchanging.{begins_to, goes_to, takes_left, takes_fewer, counts_at, asks_it}
+use Rattle.sk_session.proofs.Conversed.{conversed_prints}
 use Rattle.sk_session.proofs.desk.converse.Goals as goal
 
 pub loop-turn-init : goal.loop-turn-init
@@ -35,3 +36,8 @@ loop-turn-smaller g c =
 pub answer-requires : goal.answer-requires
 answer-requires g c =
     asks_it most_puts (most_puts + 14) c.loop-turn.session.at c.in-Ask.wish (subst (λ (x : Turn). Within most_puts (most_puts + 14) c.loop-turn.session.at x) c.in-Ask.is c.loop-turn.invariant.waits)
+
+pub returns-in-Said-clause-prints : goal.returns-in-Said-clause-prints
+returns-in-Said-clause-prints g c =
+    conversed_prints g.K.Desk.answers c.args.catalog.now c.args.session.now c.args.desk.now (option_copied c.args.statement) c.loop-turn.session c.loop-turn.desk c.in-Said.reply
+    (subst (λ (x : Turn). HasExchanged g.K.Desk.answers c.args.catalog.now c.args.session.now c.args.desk.now (option_copied c.args.statement) c.loop-turn.session x c.loop-turn.desk) c.in-Said.is c.loop-turn.invariant.asked)
