@@ -117,9 +117,13 @@ fn play(rt: &impl Abort, alloc: Global, lines: &[(u16, Say, Heard)]) -> Result<S
     let mut one = Session::new(alloc, 1);
     let mut two = Session::new(alloc, 2);
     for (number, say, want) in lines {
-        let session = if *number == 1 { &mut one } else { &mut two };
         let said = statement(alloc, *say)?;
-        match converse(alloc, session, &catalog, &mut shared, said.as_ref()) {
+        let reply = if *number == 1 {
+            converse(alloc, &mut one, &catalog, &mut shared, said.as_ref())
+        } else {
+            converse(alloc, &mut two, &catalog, &mut shared, said.as_ref())
+        };
+        match reply {
             Ok(reply) => assert_eq!(rt; in_short(&reply), *want, "{number}: {say:?}"),
             Err(_) => return Err("no answer")?,
         }
