@@ -14,6 +14,7 @@ pub mod Begun
 pub mod Entering
 pub mod Counting
 pub mod Numbering
+pub mod UsedNumbers
 pub mod Horizons
 pub mod Ended
 -- scans

@@ -1,6 +1,6 @@
 //! Whether a call may be made.
 
-ghost use Rattle.std.specs.Prelude.{◌≡◌, ◌==◌, ◌↔◌, ◌&&◌, not, nat_lt, map, IsTrue, slice_get, Option, Some, None, List, true};
+ghost use Rattle.std.specs.Prelude.{◌≡◌, ◌==◌, ◌↔◌, ◌&&◌, ℕ, not, nat_lt, map, IsTrue, slice_get, Option, Some, None, List, true};
 ghost use Rattle.std.specs.Option.{option_map, option_copied};
 ghost use Rattle.std.specs.List.{list_any};
 ghost use Rattle.sk_rows.specs.Values.{Fits};
@@ -9,13 +9,14 @@ ghost use Rattle.sk_model.specs.Engine.{EngineTable, keeps, is_kept};
 ghost use Rattle.sk_model.specs.EngineConditions.{is_short, is_standing, fits_key, has_row};
 ghost use Rattle.sk_model.specs.Names.{columns_at};
 ghost use Rattle.sk_model.specs.Replies.{key_of};
-ghost use Rattle.sk_engine.specs.Counts.{used};
+ghost use Rattle.sk_model.specs.Numbers.{Rises};
+ghost use Rattle.sk_engine.specs.Counts.{used, number_in};
 ghost use Rattle.sk_engine.specs.Permits.{kept_at, may_stop, IsRowFor};
 ghost use Rattle.sk_engine.specs.Stands.{held_in, timed, floor_by};
 ghost use Rattle.sk_engine.specs.Engines.{StandsBy};
 
 use crate::book::Book;
-use crate::numbers::Number;
+use crate::numbers::{Number, count_below};
 use crate::openings::{Opening, floor_in};
 use crate::rows::Rows;
 use sk_model::{EngineCall, EngineName, Label};
@@ -124,16 +125,24 @@ pub(crate) fn takes_row(
     }
 }
 
-/// Whether the number is used.
-fn is_used(numbers: &[Number], n: u32) -> bool
+/// Whether it is one of these numbers.
+fn is_one_of(numbers: &[Number], n: u32) -> bool
     ensures { result ≡ list_any (λ u. u.n == n) numbers.now }
 {
     numbers.iter().any(|number| number.n == n)
 }
 
-/// Whether the transaction is closed, and the number past its floor and not used.
+/// Whether the number is used, where the numbers rise. It looks from the end, as far as they are not below it.
+fn is_used(numbers: &[Number], n: u32) -> bool
+    ensures { (p : ℕ) → Rises number_in p (map used numbers.now) → result ≡ list_any (λ u. u.n == n) numbers.now }
+{
+    let at = count_below(numbers, n);
+    is_one_of(numbers.split_at(at).1, n)
+}
+
+/// Whether the transaction is closed, and the number past its floor and not used, where the numbers rise.
 pub(crate) fn may_end(book: &Book, tx: Label, n: u32) -> bool
-    ensures { result ≡ may_stop (floor_by (held_in book.now.openings.entries tx)) n (list_any (λ u. u.n == n) book.now.numbers.items) }
+    ensures { (p : ℕ) → Rises number_in p (map used book.now.numbers.items) → result ≡ may_stop (floor_by (held_in book.now.openings.entries tx)) n (list_any (λ u. u.n == n) book.now.numbers.items) }
 {
     match floor_in(&book.openings, tx) {
         Some(floor) => floor < n && !is_used(book.numbers.as_slice(), n),
