@@ -19,9 +19,9 @@ use Rattle.sk_session.specs.declared.live.At.{At}
 use Rattle.sk_session.specs.declared.live.At.TheVariants as at
 use Rattle.sk_session.specs.declared.live.Moved.{Moved}
 use Rattle.sk_session.specs.declared.session.Session.{Session}
-use Rattle.sk_session.specs.Moving.{record_now, with_last, place_of, label_after, begun, begins, TakesAt, StartsAt, leave_at}
+use Rattle.sk_session.specs.Moving.{record_now, with_last, place_of, label_after, begun, begins, TakesAt, StartsAt, drops, first_opened, leave_at}
 use Rattle.sk_session.specs.Starting.{Starts, Takes, Leaves, moved_to}
-use Rattle.sk_session.specs.EachTalk.{LastLive, HasTalks, IsOrderly, AnswerFits, has_begun}
+use Rattle.sk_session.specs.EachTalk.{LastLive, HasTalks, IsOrderly, AnswerFits, has_begun, IsBetween}
 use Rattle.sk_session.specs.Facts.{Facts, facts_of, facts_taken, last_changed, BegunFacts, TakeFacts, StartFacts, LeaveFacts, OpensBy, OpensAt, TakeOpens, IsOpening, StartOpens}
 use Rattle.sk_session.specs.SoFar.{so_far}
 use Rattle.sk_session.proofs.SoFar.{live_facts, HasFacts, same_move, give_up_has}
@@ -152,3 +152,18 @@ left_facts records (at.Asking live doing) = refl
 
 pub leave_facts : (old new : Session) (turn : Turn) → Leaves old new turn → LeaveFacts old new
 leave_facts old new turn l = ap (λ (m : Moved). map facts_of (so_far m.records m.at)) l.moves ∙ left_facts old.records old.at
+
+left_opens : (records : List Record) (there : At) (moved : Moved) → IsBetween there → moved ≡ leave_at records there → IsOpening moved.at → ⊥
+left_opens records at.Outside moved between is o = subst (λ (m : Moved). IsOpening m.at) is o
+left_opens records at.Ended moved between is o = subst (λ (m : Moved). IsOpening m.at) is o
+left_opens records (at.Stepping live c) moved between is o = subst (λ (m : Moved). IsOpening m.at) is o
+left_opens records (at.Asking live doing) moved between is o = between
+left_opens records (at.Inside live) moved between is o = by (first_opened live) (subst (λ (m : Moved). IsOpening m.at) is o)
+  where
+    by : (e : Option EngineName) → IsOpening (drops records live e ending.RolledBack reply.RolledBack false).at → ⊥
+    by None i = i
+    by (Some e) i = i
+
+-- between two lines it asks for no opening
+pub leave_opens : (old new : Session) (turn : Turn) → IsBetween old.at → Leaves old new turn → IsOpening new.at → ⊥
+leave_opens old new turn between l = left_opens old.records old.at (moved_to new turn) between l.moves

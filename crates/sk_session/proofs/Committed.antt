@@ -16,7 +16,8 @@ use Rattle.sk_model.specs.declared.step.StepName.TheVariants.{CloseMem, CloseSto
 use Rattle.sk_model.specs.Replies.{is_judged}
 use Rattle.sk_model.specs.Spoken.{is_lost}
 use Rattle.sk_model.specs.Talks.{Talk, wrote}
-use Rattle.sk_model.specs.RecordTalks.{Converses, is_last, is_end, number_or_none, commit_steps, steps_calls, left_by, owes, leaves_of, is_check, EndsAt, EndReplyTo, EndReply, CommitReply, lost_ending, Outdone, Talks}
+use Rattle.sk_model.specs.Records.{is_committed}
+use Rattle.sk_model.specs.RecordTalks.{Converses, is_last, is_end, number_or_none, commit_steps, steps_calls, left_by, owes, is_open, leaves_of, is_check, EndsAt, EndReplyTo, EndReply, CommitReply, lost_ending, Outdone}
 use Rattle.sk_commit.specs.declared.committing.Used.{Used}
 use Rattle.sk_commit.specs.declared.committing.CommitEnd.{CommitEnd}
 use Rattle.sk_commit.specs.declared.committing.CommitEnd.TheVariants.{Committed, CheckFailed, Spent, NoMemory}
@@ -26,7 +27,7 @@ use Rattle.sk_commit.specs.Told.{same_step, steps_before, steps_from, steps_of, 
 use Rattle.sk_session.specs.Kept.{listed, said_maybe}
 use Rattle.sk_session.specs.declared.live.Live.{Live}
 use Rattle.sk_session.specs.Moving.{said_now, passed_at, record_of, used_of, end_ending, end_reply}
-use Rattle.sk_session.specs.Speaks.{Commits}
+use Rattle.sk_session.specs.Speaks.{Commits, Over}
 use Rattle.sk_session.proofs.Talking.{spoken_push}
 
 -- ---- the steps
@@ -70,6 +71,26 @@ ends_at om os false true (Some DrawStore) (Spent Store mem) has so = refl
 ends_at om os true true (Some Check) (CheckFailed point mem store) has so = refl
 ends_at om os false false (Some s) end has so = absurd (no_step om os s has)
 ends_at om os wm ws o end has so = absurd cc
+
+is_ended : (end : CommitEnd) → is_open (end_ending end) ≡ false
+is_ended (Committed mem store) = refl
+is_ended (CheckFailed point mem store) = refl
+is_ended (Spent engine mem) = refl
+is_ended NoMemory = refl
+
+-- no step of who is committed was refused
+none_left : (used : Used) (o : Option StepName) (end : CommitEnd) → refuses o end ≡ true → is_committed (end_ending end) ≡ true → not_taken used o ≡ []
+none_left used None (Committed mem store) so c = refl
+none_left used (Some CloseMem) (Committed mem store) so c = absurd cc
+none_left used (Some CloseStore) (Committed mem store) so c = absurd cc
+none_left used (Some DrawMem) (Committed mem store) so c = absurd cc
+none_left used (Some DrawStore) (Committed mem store) so c = absurd cc
+none_left used (Some Check) (Committed mem store) so c = absurd cc
+none_left used (Some StampMem) (Committed mem store) so c = absurd cc
+none_left used (Some StampStore) (Committed mem store) so c = absurd cc
+none_left used o (CheckFailed point mem store) so c = absurd cc
+none_left used o (Spent engine mem) so c = absurd cc
+none_left used o NoMemory so c = absurd cc
 
 owes_mem_is : (end : CommitEnd) (snapshot : Option ℕ) (os wm ws : Bool) → owes (end_ending end) snapshot wm ≡ owes_mem (used_as (is_some snapshot) os wm ws) end
 owes_mem_is (Committed mem store) snapshot os wm ws = refl
@@ -117,37 +138,41 @@ module _ (catalog : List Table) (live : Live) (c : Committing) (own : Option Rep
 
   -- its record has just these calls, where its statements are such
   pub commit_talks : (heard : List Said) → Converses catalog live.label live.kind [] heard w.spoken → (final.said ≡ heard) ⊎ Outdone final heard → AllByRecursion (EndReply final) final.said
-      → AllByRecursion (λ (s : Said). is_lost s.reply ≡ true → final.ending ≡ lost_ending s.reply) final.said → Talks catalog final (talk ++ more)
+      → AllByRecursion (λ (s : Said). is_lost s.reply ≡ true → final.ending ≡ lost_ending s.reply) final.said → Over catalog final (talk ++ more)
   commit_talks heard asked said replies lost = record {
-    heard = heard;
-    spoken = w.spoken;
-    taken = taken;
-    rest = not_taken c.used (refused_at c.stage end);
-    numbered = numbered c;
-    talk_is = all_calls;
-    said = said;
-    asked = asked;
-    mem = w.mem;
-    store = w.store;
-    steps =
-        ap (λ b. commit_steps b (wrote Store w.spoken)) (sym w.wrote_mem) ∙ ap (commit_steps live.wrote_mem) (sym w.wrote_store)
-        ∙ ap (λ (u : Used). steps_of u) (sym w.used) ∙ cut_steps c.used (refused_at c.stage end);
-    drew_mem = w.drew_mem;
-    drew_store = w.drew_store;
-    mem_drawn = ap is_some w.drew_mem ∙ h.mem_drawn;
-    store_drawn = ap is_some w.drew_store ∙ h.store_drawn;
-    past_mem = subst (λ m. IfSome m (λ n. c.floor_mem < n)) (sym w.drew_mem) h.past_mem;
-    past_store = subst (λ m. IfSome m (λ n. c.floor_store < n)) (sym w.drew_store) h.past_store;
-    selected = listed live.selected;
-    selection = w.selection;
-    made =
-        ap (λ b. listed live.selected ++ listed (passed_at b live.drew_mem live.drew_store)) (w.passed ∙ sym h.checked)
-        ∙ ap (λ m. listed live.selected ++ listed (passed_at (list_any is_check taken) m live.drew_store)) w.drew_mem
-        ∙ ap (λ m. listed live.selected ++ listed (passed_at (list_any is_check taken) c.mem m)) w.drew_store
-        ∙ ap (λ t. listed live.selected ++ t) (point_made (list_any is_check taken) c.mem c.store);
-    ends = ends_at c.used.open_mem c.used.open_store c.used.wrote_mem c.used.wrote_store (refused_at c.stage end) end h.has h.refused;
-    replies = replies;
-    lost = lost;
+    talks = record {
+      heard = heard;
+      spoken = w.spoken;
+      taken = taken;
+      rest = not_taken c.used (refused_at c.stage end);
+      numbered = numbered c;
+      talk_is = all_calls;
+      said = said;
+      asked = asked;
+      mem = w.mem;
+      store = w.store;
+      steps =
+          ap (λ b. commit_steps b (wrote Store w.spoken)) (sym w.wrote_mem) ∙ ap (commit_steps live.wrote_mem) (sym w.wrote_store)
+          ∙ ap (λ (u : Used). steps_of u) (sym w.used) ∙ cut_steps c.used (refused_at c.stage end);
+      drew_mem = w.drew_mem;
+      drew_store = w.drew_store;
+      mem_drawn = ap is_some w.drew_mem ∙ h.mem_drawn;
+      store_drawn = ap is_some w.drew_store ∙ h.store_drawn;
+      past_mem = subst (λ m. IfSome m (λ n. c.floor_mem < n)) (sym w.drew_mem) h.past_mem;
+      past_store = subst (λ m. IfSome m (λ n. c.floor_store < n)) (sym w.drew_store) h.past_store;
+      selected = listed live.selected;
+      selection = w.selection;
+      made =
+          ap (λ b. listed live.selected ++ listed (passed_at b live.drew_mem live.drew_store)) (w.passed ∙ sym h.checked)
+          ∙ ap (λ m. listed live.selected ++ listed (passed_at (list_any is_check taken) m live.drew_store)) w.drew_mem
+          ∙ ap (λ m. listed live.selected ++ listed (passed_at (list_any is_check taken) c.mem m)) w.drew_store
+          ∙ ap (λ t. listed live.selected ++ t) (point_made (list_any is_check taken) c.mem c.store);
+      ends = ends_at c.used.open_mem c.used.open_store c.used.wrote_mem c.used.wrote_store (refused_at c.stage end) end h.has h.refused;
+      replies = replies;
+      lost = lost;
+    };
+    ended = is_ended end;
+    whole = none_left c.used (refused_at c.stage end) end h.refused;
   }
 
 -- ---- its statements
@@ -206,7 +231,7 @@ all_lost r (x ∷ said) last going h =
 
 module _ (catalog : List Table) (live : Live) (c : Committing) (talk more : Talk) (end : CommitEnd) (h : HasEnded c end (talk_of c ++ more)) where
   -- by STEP, or by COMMIT inside BEGIN
-  pub declared_talks : Commits catalog live c None talk → Talks catalog (record_of live (end_ending end) (end_reply end None)) (talk ++ more)
+  pub declared_talks : Commits catalog live c None talk → Over catalog (record_of live (end_ending end) (end_reply end None)) (talk ++ more)
   declared_talks w = by w.heard_is.1
     where
       going : AllByRecursion (λ (s : Said). is_last s ≡ false) live.said
@@ -215,7 +240,7 @@ module _ (catalog : List Table) (live : Live) (c : Committing) (talk more : Talk
       asked : Converses catalog live.label live.kind [] live.said w.spoken
       asked = subst (λ ss. Converses catalog live.label live.kind [] ss w.spoken) (sym w.heard_is.0) w.asked
 
-      by : (live.statement ≡ None) ⊎ (live.statement ≡ Some statement.Commit) → Talks catalog (record_of live (end_ending end) (end_reply end None)) (talk ++ more)
+      by : (live.statement ≡ None) ⊎ (live.statement ≡ Some statement.Commit) → Over catalog (record_of live (end_ending end) (end_reply end None)) (talk ++ more)
       by (inl none) =
           let is : live.said ++ said_maybe (said_now live.statement (end_reply end None)) ≡ live.said ++ [] = ap (λ o. live.said ++ said_maybe (said_now o (end_reply end None))) none in
           commit_talks catalog live c None talk more end w h live.said asked (inl (is ∙ append-nil live.said))
@@ -237,7 +262,7 @@ module _ (catalog : List Table) (live : Live) (c : Committing) (talk more : Talk
           fits NoMemory n = tt
 
   -- outside BEGIN, where the one statement has a reply of its own
-  pub small_talks : (own : Reply) → Commits catalog live c (Some own) talk → Talks catalog (record_of live (end_ending end) (end_reply end (Some own))) (talk ++ more)
+  pub small_talks : (own : Reply) → Commits catalog live c (Some own) talk → Over catalog (record_of live (end_ending end) (end_reply end (Some own))) (talk ++ more)
   small_talks own w =
       let s : Statement = w.heard_is.0 in
       let r : Reply = end_reply end (Some own) in

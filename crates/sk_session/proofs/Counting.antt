@@ -318,6 +318,16 @@ module _ (most : ℕ) where
   all_bounded (job.Leave Mem how r lost) = omega arith
   all_bounded (job.Leave Store how r lost) = omega arith
 
+  pub job_small : (doing : Job) → job_left most doing < most + 14
+  job_small job.Count = omega arith
+  job_small job.Select = omega arith
+  job_small (job.Open e n) = omega arith
+  job_small (job.Read e t key) = omega arith
+  job_small (job.Put e writes done r) = omega arith
+  job_small (job.Commit c whole own) = omega (arith, stage_small c.stage)
+  job_small (job.Leave Mem how r lost) = omega arith
+  job_small (job.Leave Store how r lost) = omega arith
+
   -- the count of the writes that were put fits
   abbrev pub Counts : Job → Type 0
   Counts (job.Put e writes done r) = done < most
@@ -395,6 +405,14 @@ module _ (most : ℕ) where
   starts_within catalog number records (at.Stepping live c) s moved is = subst (Moves most (most + 14)) (sym is) (starts_stepping records live c s)
   starts_within catalog number records at.Ended s moved is = subst (Moves most (most + 14)) (sym is) (starts_ended records s)
   starts_within catalog number records (at.Asking live doing) s moved is = subst (Moves most (most + 14)) (sym is) tt
+
+  -- what leaving a session leaves
+  pub leaves_within : (records : List Record) (there : At) (moved : Moved) → moved ≡ moving.leave_at records there → Within most 3 moved.at moved.turn
+  leaves_within records at.Outside moved is = subst (Moves most 3) (sym is) tt
+  leaves_within records at.Ended moved is = subst (Moves most 3) (sym is) tt
+  leaves_within records (at.Inside live) moved is = subst (Moves most 3) (sym is) (gives_up_within records live ending.RolledBack reply.RolledBack false)
+  leaves_within records (at.Stepping live c) moved is = subst (Moves most 3) (sym is) tt
+  leaves_within records (at.Asking live doing) moved is = subst (Moves most 3) (sym is) tt
 
   -- ---- what is left
 

@@ -1,10 +1,13 @@
--- One more call that a desk has answered.
+-- One more call that a desk has answered, and what is asked for first.
 use Rattle.std.specs.Prelude.{◌≡◌, ℕ, ◌+◌, ◌<◌, List, [], ◌∷◌, ◌++◌, Option, Some, None, true, false, slice_get}
 use Rattle.std.proofs.Common.{refl, sym, ap, subst, ◌∙◌, append-nil, append_assoc}
 use Rattle.sk_rows.specs.declared.table.Table.{Table}
 use Rattle.sk_rows.specs.declared.value.Value.{Value}
 use Rattle.sk_rows.specs.declared.statement.Statement.{Statement}
 use Rattle.sk_model.specs.declared.label.Label.{Label}
+use Rattle.sk_model.specs.declared.record.Record.{Record}
+use Rattle.sk_model.specs.declared.record.Ending.TheVariants as ending
+use Rattle.sk_model.specs.declared.reply.Reply.TheVariants as reply
 use Rattle.sk_model.specs.declared.commit.Write.{Write}
 use Rattle.sk_model.specs.declared.engine.EngineName.{EngineName}
 use Rattle.sk_model.specs.declared.engine.EngineName.TheVariants.{Mem, Store}
@@ -28,14 +31,15 @@ use Rattle.sk_session.specs.declared.live.Job.TheVariants as job
 use Rattle.sk_session.specs.declared.live.At.{At}
 use Rattle.sk_session.specs.declared.live.At.TheVariants as at
 use Rattle.sk_session.specs.declared.session.Session.{Session}
-use Rattle.sk_session.specs.Moving.{on, counter_wish, put_wish, wished, TakesAt}
-use Rattle.sk_session.specs.Starting.{Starts, Takes, moved_to}
-use Rattle.sk_session.specs.EachTalk.{grown, talks_from, SessionTalks, call_made, AnswerFits}
-use Rattle.sk_session.specs.Conversing.{is_early, is_of_transaction, IsAsked, puts_done, Exchange, calls_made, Exchanges, HasExchanged}
-use Rattle.sk_session.specs.Printed.{seat_at, said_so_far, Speaking}
-use Rattle.sk_session.proofs.Printing.{start_prints, take_prints}
-use Rattle.sk_session.proofs.Recorded.{start_talks, take_talks, grown_none}
-use Rattle.sk_session.proofs.Counting.{Within, job_left, Counts, all_bounded, falls, takes_within, turns_left, left_less, some_left}
+use Rattle.sk_session.specs.declared.live.Moved.{Moved}
+use Rattle.sk_session.specs.Moving.{on, counter_wish, put_wish, wished, TakesAt, drops, first_opened, leave_at}
+use Rattle.sk_session.specs.Starting.{Starts, Takes, Leaves, moved_to}
+use Rattle.sk_session.specs.EachTalk.{grown, SessionTalks, call_made, AnswerFits, IsBetween}
+use Rattle.sk_session.specs.Conversing.{is_early, is_of_transaction, IsAsked, puts_done, Exchange, calls_made, Exchanges, HasExchanged, TurnFits}
+use Rattle.sk_session.specs.Printed.{Speaking}
+use Rattle.sk_session.proofs.Printing.{take_prints}
+use Rattle.sk_session.proofs.Recorded.{take_talks, grown_none}
+use Rattle.sk_session.proofs.Counting.{most_puts, Within, job_left, job_small, Counts, all_bounded, falls, takes_within, starts_within, leaves_within, turns_left, left_less, some_left}
 
 -- the calls of a transaction grow twice
 grown_twice : (talks : List Talk) (x y : Talk) → grown (grown talks x) y ≡ grown talks (x ++ y)
@@ -49,7 +53,7 @@ calls_snoc [] x = append-nil (own_call x.wish x.got)
 calls_snoc (y ∷ xs) x = ap (λ t. own_call y.wish y.got ++ t) (calls_snoc xs x) ∙ sym (append_assoc (own_call y.wish y.got) (calls_made xs) (own_call x.wish x.got))
 
 -- an answer of the kind of the wish is of the kind that is waited for
-answer_fits : (most n : ℕ) (there : At) (w : Wish) (got : Got) → Within most n there (turn.Ask w) → WishFits w got → AnswerFits there got
+pub answer_fits : (most n : ℕ) (there : At) (w : Wish) (got : Got) → Within most n there (turn.Ask w) → WishFits w got → AnswerFits there got
 answer_fits most n (at.Asking live doing) w got h fits = subst (λ x. WishFits x got) h.0 fits
 answer_fits most n _ w got h fits = absurd h
 
@@ -149,37 +153,64 @@ module _ {D : Type 0} (answers : D → Wish → Got → D → Type 0) (catalog :
   one_more (x ∷ xs) s t d s_then t_then d_then w got new asked after h is fits late answered takes =
       (h.0, h.1, h.2, h.3, h.4, h.5, h.6, h.7, one_more xs h.3 h.4 h.5 s_then t_then d_then w got new asked after h.8 is fits late answered takes)
 
-  -- a statement has begun
-  pub begins_to : (old : Session) (desk : D) (s : Option Statement) (new : Session) (t : Turn) → Starts catalog old s new t → HasExchanged answers catalog old desk s new t desk
-  begins_to old desk s new t starts = record {
-    first = new;
-    asked = t;
-    starts = starts;
-    made = [];
-    goes = (refl, refl, refl);
-    talks = λ talks h. subst (SessionTalks catalog new) (sym (grown_none (talks_from old.at new.at talks))) (start_talks catalog old s new t starts talks h);
-    says = start_prints catalog old s new t starts;
-  }
+  -- nothing was asked for yet
+  pub nothing_asked : (first : Session) (asked : Turn) (desk : D) → HasExchanged answers catalog first asked desk first asked desk
+  nothing_asked first asked desk = record { made = []; goes = (refl, refl, refl); talks = λ talks h. subst (SessionTalks catalog first) (sym (grown_none talks)) h; says = λ seat s said h. h }
 
-  -- and goes on with one more call
-  pub goes_to : (most n : ℕ) (old : Session) (desk : D) (s : Option Statement) (now : Session) (t : Turn) (d : D) (w : Wish) (got : Got) (new : Session) (asked : Turn) (after : D)
-      → HasExchanged answers catalog old desk s now t d → Within most n now.at t → t ≡ turn.Ask w → WishFits w got → is_early got ≡ false → answers d w got after → Takes catalog now got new asked
-      → HasExchanged answers catalog old desk s new asked after
-  goes_to most n old desk s now t d w got new asked after c within is fits late answered takes =
+  -- and it goes on with one more call
+  pub goes_to : (most n : ℕ) (first : Session) (begun : Turn) (desk : D) (now : Session) (t : Turn) (d : D) (w : Wish) (got : Got) (new : Session) (asked : Turn) (after : D)
+      → HasExchanged answers catalog first begun desk now t d → Within most n now.at t → t ≡ turn.Ask w → WishFits w got → is_early got ≡ false → answers d w got after → Takes catalog now got new asked
+      → HasExchanged answers catalog first begun desk new asked after
+  goes_to most n first begun desk now t d w got new asked after c within is fits late answered takes =
       let here : Within most n now.at (turn.Ask w) = subst (Within most n now.at) is within in
       record {
-        first = c.first;
-        asked = c.asked;
-        starts = c.starts;
         made = c.made ++ record { wish = w; got = got } ∷ [];
-        goes = one_more c.made c.first c.asked desk now t d w got new asked after c.goes is fits late answered takes;
+        goes = one_more c.made first begun desk now t d w got new asked after c.goes is fits late answered takes;
         talks = λ talks h.
             subst (SessionTalks catalog new)
-            (ap (grown (grown (talks_from old.at c.first.at talks) (calls_made c.made))) (same_call most n now.at w got here)
-            ∙ grown_twice (talks_from old.at c.first.at talks) (calls_made c.made) (own_call w got)
-            ∙ ap (grown (talks_from old.at c.first.at talks)) (sym (calls_snoc c.made (record { wish = w; got = got }))))
-            (take_talks catalog now got new asked takes (grown (talks_from old.at c.first.at talks) (calls_made c.made)) (c.talks talks h) (answer_fits most n now.at w got here fits));
-        says = λ clear.
-            take_prints catalog now got new asked takes (seat_at old.at) s (said_so_far old)
-            (subst (Speaking (seat_at old.at) s (said_so_far old) now) is (c.says clear)) (answer_fits most n now.at w got here fits);
+            (ap (grown (grown talks (calls_made c.made))) (same_call most n now.at w got here)
+            ∙ grown_twice talks (calls_made c.made) (own_call w got)
+            ∙ ap (grown talks) (sym (calls_snoc c.made (record { wish = w; got = got }))))
+            (take_talks catalog now got new asked takes (grown talks (calls_made c.made)) (c.talks talks h) (answer_fits most n now.at w got here fits));
+        says = λ seat s said h. take_prints catalog now got new asked takes seat s said (subst (Speaking seat s said now) is (c.says seat s said h)) (answer_fits most n now.at w got here fits);
       }
+
+-- ---- what is asked for first
+
+-- what is waited for is within any bound
+pub fits_within : (most : ℕ) (there : At) (t : Turn) → TurnFits there t → Within most (most + 14) there t
+fits_within most there (turn.Said r) h = tt
+fits_within most (at.Asking live doing) (turn.Ask w) h = (h, job_small most doing)
+fits_within most _ (turn.Ask w) h = absurd h
+
+fits_there : (most n : ℕ) (there : At) (t : Turn) → Within most n there t → TurnFits there t
+fits_there most n there (turn.Said r) h = tt
+fits_there most n (at.Asking live doing) (turn.Ask w) h = h.0
+fits_there most n _ (turn.Ask w) h = absurd h
+
+-- behind a statement
+pub start_fits : (catalog : List Table) (old : Session) (s : Option Statement) (new : Session) (t : Turn) → Starts catalog old s new t → TurnFits new.at t
+start_fits catalog old s new t starts = fits_there most_puts (most_puts + 14) new.at t (starts_within most_puts catalog old.number old.records old.at s (moved_to new t) starts.moves)
+
+-- and as a session is left
+pub leave_fits : (old new : Session) (t : Turn) → Leaves old new t → TurnFits new.at t
+leave_fits old new t leaves = fits_there most_puts 3 new.at t (leaves_within most_puts old.records old.at (moved_to new t) leaves.moves)
+
+-- a session that is left between two lines asks for what it waits for
+abbrev Waits : At → Turn → Type 0
+Waits (at.Asking live doing) t = t ≡ turn.Ask (wished live doing)
+Waits _ t = Unit {0}
+
+left_waits : (records : List Record) (there : At) (moved : Moved) → IsBetween there → moved ≡ leave_at records there → Waits moved.at moved.turn
+left_waits records at.Outside moved between is = subst (λ (m : Moved). Waits m.at m.turn) (sym is) tt
+left_waits records at.Ended moved between is = subst (λ (m : Moved). Waits m.at m.turn) (sym is) tt
+left_waits records (at.Stepping live c) moved between is = subst (λ (m : Moved). Waits m.at m.turn) (sym is) tt
+left_waits records (at.Asking live doing) moved between is = absurd between
+left_waits records (at.Inside live) moved between is = subst (λ (m : Moved). Waits m.at m.turn) (sym is) (by (first_opened live))
+  where
+    by : (e : Option EngineName) → Waits (drops records live e ending.RolledBack reply.RolledBack false).at (drops records live e ending.RolledBack reply.RolledBack false).turn
+    by None = tt
+    by (Some e) = refl
+
+pub leave_waits : (old new : Session) (t : Turn) → IsBetween old.at → Leaves old new t → (live : Live) (doing : Job) → new.at ≡ at.Asking live doing → t ≡ turn.Ask (wished live doing)
+leave_waits old new t between leaves live doing e = subst (λ there. Waits there t) e (left_waits old.records old.at (moved_to new t) between leaves.moves)

@@ -13,7 +13,7 @@ use Rattle.sk_model.specs.declared.step.StepName.TheVariants.{CloseMem, CloseSto
 use Rattle.sk_model.specs.declared.call.EngineCall.TheVariants as call
 use Rattle.sk_model.specs.declared.call.EngineReply.TheVariants as answer
 use Rattle.sk_model.specs.Talks.{Talk, own}
-use Rattle.sk_model.specs.RecordTalks.{is_check, Talks}
+use Rattle.sk_model.specs.RecordTalks.{is_check}
 use Rattle.sk_commit.specs.declared.asking.Got.{Got}
 use Rattle.sk_commit.specs.declared.asking.Got.TheVariants as given
 use Rattle.sk_commit.specs.declared.committing.Committing.{Committing}
@@ -26,13 +26,13 @@ use Rattle.sk_commit.specs.Told.{talk_of, taken_steps, GoesOn, Keeps as CommitKe
 use Rattle.sk_commit.proofs.Taking.{take_keeps}
 use Rattle.sk_session.specs.declared.live.Live.{Live}
 use Rattle.sk_session.specs.Moving.{record_of, finish, drops, next_opened, on, stepped, went_on, commit_goes, end_ending, end_reply}
-use Rattle.sk_session.specs.Speaks.{HeardIs, Commits, IsAtStep, Leaves, Keeps}
+use Rattle.sk_session.specs.Speaks.{HeardIs, Commits, IsAtStep, Leaves, Over, Keeps}
 use Rattle.sk_session.proofs.Leaving.{left_mem, left_mem_last, left_store}
 use Rattle.sk_session.proofs.Committed.{declared_talks, small_talks}
 use Rattle.sk_session.proofs.Stages.{GoesToStep, taken_on}
 
 -- the transaction is over
-pub finish_keeps : (catalog : List Table) (records : List Record) (live : Live) (how : Ending) (r : Reply) (lost : Bool) (talk : Talk) → Talks catalog (record_of live how r) talk → Keeps catalog records live.label talk (finish records live how r lost)
+pub finish_keeps : (catalog : List Table) (records : List Record) (live : Live) (how : Ending) (r : Reply) (lost : Bool) (talk : Talk) → Over catalog (record_of live how r) talk → Keeps catalog records live.label talk (finish records live how r lost)
 finish_keeps catalog records live how r true talk t = (record_of live how r, refl, refl, t)
 finish_keeps catalog records live how r false talk t = (record_of live how r, refl, refl, t)
 
@@ -121,7 +121,7 @@ module _ (catalog : List Table) (records : List Record) (live : Live) (c : Commi
       }
   commit_keeps whole (outcome.Step (Ended end)) alone k on = finish_keeps catalog records live (end_ending end) (end_reply end own) false (talk ++ more) (ended own w)
     where
-      ended : (o : Option Reply) → Commits catalog live c o talk → Talks catalog (record_of live (end_ending end) (end_reply end o)) (talk ++ more)
+      ended : (o : Option Reply) → Commits catalog live c o talk → Over catalog (record_of live (end_ending end) (end_reply end o)) (talk ++ more)
       ended None v = declared_talks catalog live c talk more end k v
       ended (Some r) v = small_talks catalog live c talk more end k r v
 

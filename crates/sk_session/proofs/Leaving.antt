@@ -17,11 +17,12 @@ use Rattle.sk_model.specs.declared.call.EngineReply.TheVariants as answer
 use Rattle.sk_model.specs.Spoken.{is_lost}
 use Rattle.sk_model.specs.Talks.{Talk, own, wrote}
 use Rattle.sk_model.specs.Asking.{Rest, Asked}
-use Rattle.sk_model.specs.RecordTalks.{Converses, is_last, is_end, commit_steps, Numbered, left_by, owes, leaves_of, EndsAt, EndReplyTo, EndReply, lost_ending, Talks}
+use Rattle.sk_model.specs.Records.{is_committed}
+use Rattle.sk_model.specs.RecordTalks.{Converses, is_last, is_end, commit_steps, Numbered, left_by, owes, is_open, leaves_of, EndsAt, EndReplyTo, EndReply, lost_ending}
 use Rattle.sk_session.specs.Kept.{listed, said_maybe}
 use Rattle.sk_session.specs.declared.live.Live.{Live}
 use Rattle.sk_session.specs.Moving.{said_now, passed_at, record_of}
-use Rattle.sk_session.specs.Speaks.{Answering, LastFits, is_given_up, GivenUp, Leaves}
+use Rattle.sk_session.specs.Speaks.{Answering, LastFits, is_given_up, GivenUp, Leaves, Over}
 use Rattle.sk_session.proofs.Talking.{spoken_push}
 
 -- ---- what the record says
@@ -53,6 +54,14 @@ ends_before ending.Old rest e = refl
 ends_before ending.Device rest e = refl
 ends_before ending.NoMemory rest e = refl
 ends_before _ rest e = absurd cc
+
+given_up_ended : (how : Ending) → is_given_up how ≡ true → is_open how ≡ false
+given_up_ended ending.Open e = absurd cc
+given_up_ended _ e = refl
+
+given_up_fails : (how : Ending) → is_given_up how ≡ true → is_committed how ≡ false
+given_up_fails ending.Committed e = absurd cc
+given_up_fails _ e = refl
 
 parts : (x y : Bool) → (x || y) ≡ false → (x ≡ false) × (y ≡ false)
 parts false y e = (refl, e)
@@ -103,32 +112,36 @@ module _ (catalog : List Table) (live : Live) (how : Ending) (r : Reply) (spoken
       ∙ ap (λ d. left_by live.label Mem (is_some live.mem) None ++ left_by live.label Store (is_some live.store) d) over.knows.store_undrawn
 
   -- its record has just these calls
-  pub given_up_talks : Talks catalog (record_of live how r) (spoken ++ all_left live)
+  pub given_up_talks : Over catalog (record_of live how r) (spoken ++ all_left live)
   unfolding nothing_drawn
   given_up_talks = record {
-    heard = live.said ++ said_maybe (said_now live.statement r);
-    spoken = spoken;
-    taken = [];
-    rest = commit_steps (wrote Mem spoken) (wrote Store spoken);
-    numbered = nothing_drawn;
-    talk_is = ap (λ t. spoken ++ t) (sym leaves_are);
-    said = inl refl;
-    asked = over.heard;
-    mem = over.knows.mem;
-    store = over.knows.store;
-    steps = refl;
-    drew_mem = over.knows.mem_undrawn;
-    drew_store = over.knows.store_undrawn;
-    mem_drawn = ap is_some over.knows.mem_undrawn;
-    store_drawn = ap is_some over.knows.store_undrawn;
-    past_mem = none_past _ live.drew_mem over.knows.mem_undrawn;
-    past_store = none_past _ live.drew_store over.knows.store_undrawn;
-    selected = listed live.selected;
-    selection = over.knows.selection;
-    made = ap (λ b. listed live.selected ++ listed (passed_at b live.drew_mem live.drew_store)) over.knows.unpassed;
-    ends = ends_before how _ over.given_up;
-    replies = replied (record_of live how r) live.said live.statement r over.going over.last;
-    lost = lost_so (record_of live how r) live.said live.statement r over.going over.last;
+    talks = record {
+      heard = live.said ++ said_maybe (said_now live.statement r);
+      spoken = spoken;
+      taken = [];
+      rest = commit_steps (wrote Mem spoken) (wrote Store spoken);
+      numbered = nothing_drawn;
+      talk_is = ap (λ t. spoken ++ t) (sym leaves_are);
+      said = inl refl;
+      asked = over.heard;
+      mem = over.knows.mem;
+      store = over.knows.store;
+      steps = refl;
+      drew_mem = over.knows.mem_undrawn;
+      drew_store = over.knows.store_undrawn;
+      mem_drawn = ap is_some over.knows.mem_undrawn;
+      store_drawn = ap is_some over.knows.store_undrawn;
+      past_mem = none_past _ live.drew_mem over.knows.mem_undrawn;
+      past_store = none_past _ live.drew_store over.knows.store_undrawn;
+      selected = listed live.selected;
+      selection = over.knows.selection;
+      made = ap (λ b. listed live.selected ++ listed (passed_at b live.drew_mem live.drew_store)) over.knows.unpassed;
+      ends = ends_before how _ over.given_up;
+      replies = replied (record_of live how r) live.said live.statement r over.going over.last;
+      lost = lost_so (record_of live how r) live.said live.statement r over.going over.last;
+    };
+    ended = given_up_ended how over.given_up;
+    whole = λ c. absurd (cc (c, given_up_fails how over.given_up));
   }
 
 -- ---- one opening after another
@@ -167,9 +180,9 @@ leaves_store catalog live how r spoken over none is = record {
 }
 
 -- where neither is open, the record has the calls of the statements alone
-pub leaves_none : (catalog : List Table) (live : Live) (how : Ending) (r : Reply) (spoken : Talk) → GivenUp catalog live how r spoken → is_some live.mem ≡ false → is_some live.store ≡ false → Talks catalog (record_of live how r) spoken
+pub leaves_none : (catalog : List Table) (live : Live) (how : Ending) (r : Reply) (spoken : Talk) → GivenUp catalog live how r spoken → is_some live.mem ≡ false → is_some live.store ≡ false → Over catalog (record_of live how r) spoken
 leaves_none catalog live how r spoken over mem store =
-    subst (Talks catalog (record_of live how r))
+    subst (Over catalog (record_of live how r))
     (ap (λ b. spoken ++ (left_by live.label Mem b None ++ left_by live.label Store (is_some live.store) None)) mem ∙ ap (λ b. spoken ++ left_by live.label Store b None) store ∙ append-nil spoken)
     (given_up_talks catalog live how r spoken over)
 
@@ -186,18 +199,18 @@ module _ (catalog : List Table) (live : Live) (how : Ending) (r : Reply) (talk :
   }
 
   -- the memory engine was left, and no other is open
-  pub left_mem_last : Leaves catalog live Mem how r talk → is_some live.store ≡ false → Talks catalog (record_of live how r) (talk ++ own Mem (call.DropTx live.label) answer.Done ∷ [])
+  pub left_mem_last : Leaves catalog live Mem how r talk → is_some live.store ≡ false → Over catalog (record_of live how r) (talk ++ own Mem (call.DropTx live.label) answer.Done ∷ [])
   left_mem_last l none =
-      subst (Talks catalog (record_of live how r))
+      subst (Over catalog (record_of live how r))
       (ap (λ b. l.spoken ++ (left_by live.label Mem b None ++ left_by live.label Store (is_some live.store) None)) l.opened
       ∙ ap (λ b. l.spoken ++ (left_by live.label Mem true None ++ left_by live.label Store b None)) none
       ∙ ap (λ t. t ++ own Mem (call.DropTx live.label) answer.Done ∷ []) (sym (append-nil l.spoken) ∙ sym l.talk_is))
       (given_up_talks catalog live how r l.spoken l.over)
 
   -- the storage engine was left, which is the last one
-  pub left_store : Leaves catalog live Store how r talk → Talks catalog (record_of live how r) (talk ++ own Store (call.DropTx live.label) answer.Done ∷ [])
+  pub left_store : Leaves catalog live Store how r talk → Over catalog (record_of live how r) (talk ++ own Store (call.DropTx live.label) answer.Done ∷ [])
   left_store l =
-      subst (Talks catalog (record_of live how r))
+      subst (Over catalog (record_of live how r))
       (ap (λ b. l.spoken ++ (left_by live.label Mem (is_some live.mem) None ++ left_by live.label Store b None)) l.opened
       ∙ sym (append_assoc l.spoken (left_by live.label Mem (is_some live.mem) None) (own Store (call.DropTx live.label) answer.Done ∷ []))
       ∙ ap (λ t. t ++ own Store (call.DropTx live.label) answer.Done ∷ []) (sym l.talk_is))

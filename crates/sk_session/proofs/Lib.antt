@@ -41,3 +41,7 @@ pub mod Replying
 pub mod Hearing
 pub mod Printing
 mod PrintedExamples
+-- what was refused
+pub mod Ways
+pub mod Obeyed
+mod HeardExamples

@@ -62,7 +62,7 @@ outside_begin (statement.Begin begun) r is = refl
 outside_begin _ r is = absurd cc
 
 -- a reply that loses a transaction is one to a line that uses a label
-lost_used : (r : Reply) → is_lost r ≡ true → (uses_label Outside r ≡ true) × (uses_label Inside r ≡ true)
+pub lost_used : (r : Reply) → is_lost r ≡ true → (uses_label Outside r ≡ true) × (uses_label Inside r ≡ true)
 lost_used (reply.Conflict by why) is = (refl, refl)
 lost_used (reply.Recycled point) is = (refl, refl)
 lost_used (reply.Old engine snapshot horizon) is = (refl, refl)

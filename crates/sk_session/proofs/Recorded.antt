@@ -16,13 +16,13 @@ use Rattle.sk_session.specs.declared.live.At.TheVariants as at
 use Rattle.sk_session.specs.declared.live.Moved.{Moved}
 use Rattle.sk_session.specs.declared.session.Session.{Session}
 use Rattle.sk_session.specs.Moving.{with_last, record_now, records_at, place_of, label_after}
-use Rattle.sk_session.specs.Speaks.{SpeaksAt, BegunAt, Unmoved, TakeKept, StartKept, LeaveKept}
+use Rattle.sk_session.specs.Speaks.{Over, SpeaksAt, BegunAt, Unmoved, TakeKept, StartKept, LeaveKept}
 use Rattle.sk_session.specs.Starting.{Starts, Takes, Leaves, moved_to, records_now}
 use Rattle.sk_session.proofs.Taken.{takes_keep}
 use Rattle.sk_session.proofs.Left.{starts_keep, leave_keeps}
 use Rattle.sk_session.proofs.Orderly.{starts_orderly, takes_orderly, leaves_orderly}
 use Rattle.sk_session.proofs.Pausing.{standing_talks, paused_talks}
-use Rattle.sk_session.specs.EachTalk.{label_at, EachTalks, LastLive, HasTalks, grown, AnswerFits, call_made, talks_from, StartTalks, TakeTalks, LeaveTalks, IsBetween, TalksNow}
+use Rattle.sk_session.specs.EachTalk.{label_at, EachHas, EachTalks, EachOver, LastLive, HasTalks, grown, AnswerFits, call_made, talks_from, StartTalks, TakeTalks, LeaveTalks, IsBetween, TalksNow}
 
 if_true : {X : Type 0} (b : Bool) (x y : X) → b ≡ true → (if b then x else y) ≡ x
 if_true true x y e = refl
@@ -43,11 +43,18 @@ grown_seam (b ∷ []) t more = refl
 grown_seam (b ∷ c ∷ before) t more = ap (λ ts. b ∷ ts) (grown_seam (c ∷ before) t more)
 
 -- one more record with its talk
-pub each_push : (catalog : List Table) (number k : ℕ) (rs : List Record) (ts : List Talk) (r : Record) (t : Talk) → EachTalks catalog number k rs ts → r.label ≡ label_at number (k + length rs) → Talks catalog r t → EachTalks catalog number k (rs ++ r ∷ []) (ts ++ t ∷ [])
-each_push catalog number k [] [] r t each label talks = (label ∙ ap (label_at number) (omega arith), talks, tt)
-each_push catalog number k [] (u ∷ ts) r t each label talks = absurd each
-each_push catalog number k (q ∷ rs) [] r t each label talks = absurd each
-each_push catalog number k (q ∷ rs) (u ∷ ts) r t each label talks = (each.0, each.1, each_push catalog number (k + 1) rs ts r t each.2 (label ∙ ap (label_at number) (omega arith)) talks)
+pub each_push : (Has : Record → Talk → Type 0) (number k : ℕ) (rs : List Record) (ts : List Talk) (r : Record) (t : Talk) → EachHas Has number k rs ts → r.label ≡ label_at number (k + length rs) → Has r t → EachHas Has number k (rs ++ r ∷ []) (ts ++ t ∷ [])
+each_push Has number k [] [] r t each label talks = (label ∙ ap (label_at number) (omega arith), talks, tt)
+each_push Has number k [] (u ∷ ts) r t each label talks = absurd each
+each_push Has number k (q ∷ rs) [] r t each label talks = absurd each
+each_push Has number k (q ∷ rs) (u ∷ ts) r t each label talks = (each.0, each.1, each_push Has number (k + 1) rs ts r t each.2 (label ∙ ap (label_at number) (omega arith)) talks)
+
+-- records of transactions that are over have their talks
+over_talks : (catalog : List Table) (number k : ℕ) (rs : List Record) (ts : List Talk) → EachOver catalog number k rs ts → EachTalks catalog number k rs ts
+over_talks catalog number k [] [] h = tt
+over_talks catalog number k [] (t ∷ ts) h = absurd h
+over_talks catalog number k (r ∷ rs) [] h = absurd h
+over_talks catalog number k (r ∷ rs) (t ∷ ts) h = (h.0, h.1.talks, over_talks catalog number (k + 1) rs ts h.2)
 
 module _ (catalog : List Table) (number : ℕ) (records : List Record) (talks : List Talk) (label : Label) (talk : Talk) (l : LastLive catalog number records talks label talk) where
   -- the transaction goes on, with these calls more
@@ -62,12 +69,12 @@ module _ (catalog : List Table) (number : ℕ) (records : List Record) (talks : 
     label_is = l.label_is;
   }
 
-  -- the transaction is over, and its record has all its calls
-  pub is_over : (more : Talk) (r : Record) → r.label ≡ label → Talks catalog r (talk ++ more) → EachTalks catalog number 1 (with_last records r) (grown talks more)
-  is_over more r same has =
-      subst (λ rs. EachTalks catalog number 1 rs (grown talks more)) (sym (ap (λ rs. with_last rs r) l.records_are ∙ with_last_seam l.front l.place r))
-      (subst (λ ts. EachTalks catalog number 1 (l.front ++ r ∷ []) ts) (sym (ap (λ ts. grown ts more) l.talks_are ∙ grown_seam l.before talk more))
-      (each_push catalog number 1 l.front l.before r (talk ++ more) l.each (same ∙ l.label_is ∙ ap (label_at number) (omega arith)) has))
+  -- its record has all its calls, and so have those before it
+  pub has_all : (Has : Record → Talk → Type 0) → EachHas Has number 1 l.front l.before → (more : Talk) (r : Record) → r.label ≡ label → Has r (talk ++ more) → EachHas Has number 1 (with_last records r) (grown talks more)
+  has_all Has each more r same has =
+      subst (λ rs. EachHas Has number 1 rs (grown talks more)) (sym (ap (λ rs. with_last rs r) l.records_are ∙ with_last_seam l.front l.place r))
+      (subst (λ ts. EachHas Has number 1 (l.front ++ r ∷ []) ts) (sym (ap (λ ts. grown ts more) l.talks_are ∙ grown_seam l.before talk more))
+      (each_push Has number 1 l.front l.before r (talk ++ more) each (same ∙ l.label_is ∙ ap (label_at number) (omega arith)) has))
 
 module _ (catalog : List Table) (number : ℕ) (old : List Record) (talks : List Talk) (label : Label) (talk : Talk) (l : LastLive catalog number old talks label talk) where
   lives : (more : Talk) (new : List Record) (now : Label) → new ≡ old → now ≡ label → LastLive catalog number new (grown talks more) now (talk ++ more)
@@ -75,8 +82,9 @@ module _ (catalog : List Table) (number : ℕ) (old : List Record) (talks : List
       subst (λ rs. LastLive catalog number rs (grown talks more) now (talk ++ more)) (sym is)
       (subst (λ n. LastLive catalog number old (grown talks more) n (talk ++ more)) (sym same) (goes_on catalog number old talks label talk l more))
 
-  over : (more : Talk) (new : List Record) (r : Record) → new ≡ with_last old r → r.label ≡ label → Talks catalog r (talk ++ more) → EachTalks catalog number 1 new (grown talks more)
-  over more new r is same has = subst (λ rs. EachTalks catalog number 1 rs (grown talks more)) (sym is) (is_over catalog number old talks label talk l more r same has)
+  -- the transaction is over
+  over : (more : Talk) (new : List Record) (r : Record) → new ≡ with_last old r → r.label ≡ label → Over catalog r (talk ++ more) → EachOver catalog number 1 new (grown talks more)
+  over more new r is same has = subst (λ rs. EachOver catalog number 1 rs (grown talks more)) (sym is) (has_all catalog number old talks label talk l (Over catalog) l.each more r same has)
 
   -- what the live transaction has become
   spoken_talks : (more : Talk) (new : List Record) (there : At) (turn : Turn) → SpeaksAt catalog old label new there turn (talk ++ more) → HasTalks catalog number new there (grown talks more)
@@ -119,10 +127,10 @@ take_talks catalog old got new turn t talks h fits = (
 
 -- ---- a statement
 
-begun_talks : (catalog : List Table) (number : ℕ) (old : List Record) (moved : Moved) (there : At) (talks : List Talk) → BegunAt catalog old (label_after number old) moved there → EachTalks catalog number 1 old talks
+begun_talks : (catalog : List Table) (number : ℕ) (old : List Record) (moved : Moved) (there : At) (talks : List Talk) → BegunAt catalog old (label_after number old) moved there → EachOver catalog number 1 old talks
     → HasTalks catalog number moved.records there (talks_from at.Outside there talks)
-begun_talks catalog number old moved at.Outside talks h each = subst (λ rs. EachTalks catalog number 1 rs talks) (sym h) each
-begun_talks catalog number old moved at.Ended talks h each = subst (λ rs. EachTalks catalog number 1 rs talks) (sym h) each
+begun_talks catalog number old moved at.Outside talks h each = subst (λ rs. EachOver catalog number 1 rs talks) (sym h) each
+begun_talks catalog number old moved at.Ended talks h each = subst (λ rs. EachOver catalog number 1 rs talks) (sym h) each
 begun_talks catalog number old moved (at.Asking live doing) talks h each =
     ([], record { front = old; place = place_of live.label live.kind; before = talks; records_are = h.0; talks_are = refl; each = each; label_is = h.1 }, h.2)
 begun_talks catalog number old moved _ talks h each = absurd h
@@ -168,11 +176,11 @@ leave_talks old new turn l catalog talks h = (
 now_talks : (catalog : List Table) (number : ℕ) (records : List Record) (talks : List Talk) (label : Label) (talk : Talk) (r : Record) → LastLive catalog number records talks label talk → r.label ≡ label → Talks catalog r talk → EachTalks catalog number 1 (with_last records r) talks
 now_talks catalog number records talks label talk r l same has =
     subst (λ ts. EachTalks catalog number 1 (with_last records r) ts) (grown_none talks)
-    (is_over catalog number records talks label talk l [] r same (subst (Talks catalog r) (sym (append-nil talk)) has))
+    (has_all catalog number records talks label talk l (Talks catalog) (over_talks catalog number 1 l.front l.before l.each) [] r same (subst (Talks catalog r) (sym (append-nil talk)) has))
 
 between : (catalog : List Table) (number : ℕ) (records : List Record) (there : At) (talks : List Talk) → HasTalks catalog number records there talks → IsBetween there → EachTalks catalog number 1 (records_at records there) talks
-between catalog number records at.Outside talks h is = h
-between catalog number records at.Ended talks h is = h
+between catalog number records at.Outside talks h is = over_talks catalog number 1 records talks h
+between catalog number records at.Ended talks h is = over_talks catalog number 1 records talks h
 between catalog number records (at.Inside live) talks h is = now_talks catalog number records talks live.label h.0 (record_now live) h.1 refl (standing_talks catalog live h.0 h.2)
 between catalog number records (at.Stepping live c) talks h is = now_talks catalog number records talks live.label h.0 (record_now live) h.1 refl (paused_talks catalog live c h.0 h.2)
 between catalog number records (at.Asking live doing) talks h is = absurd is

@@ -37,13 +37,13 @@ use Rattle.sk_session.specs.Printed.{seat_after, Adds, Hears, IsTold, Closes, By
 use Rattle.sk_session.proofs.Recorded.{with_last_seam}
 use Rattle.sk_session.proofs.Lines.{all, Goes, either_goes, finish_goes, drops_goes, lose_goes, starve_goes, fault_goes, put_next_goes, rows_come_goes, behind_open_goes, fault_at_read_goes}
 
-put_loss : (live : Live) (e : EngineName) (o : Option Write) (f : EngineFault) → WishFits (put_wish live e o) (given.Engine (answer.Fault f)) → IsLoss f
+pub put_loss : (live : Live) (e : EngineName) (o : Option Write) (f : EngineFault) → WishFits (put_wish live e o) (given.Engine (answer.Fault f)) → IsLoss f
 put_loss live Mem None f fits = absurd fits
 put_loss live Store None f fits = absurd fits
 put_loss live Mem (Some w) f fits = fits
 put_loss live Store (Some w) f fits = fits
 
-open_loss : (live : Live) (e : EngineName) (n : ℕ) (f : EngineFault) → WishFits (on e (call.Open live.label n)) (given.Engine (answer.Fault f)) → IsLoss f
+pub open_loss : (live : Live) (e : EngineName) (n : ℕ) (f : EngineFault) → WishFits (on e (call.Open live.label n)) (given.Engine (answer.Fault f)) → IsLoss f
 open_loss live Mem n f fits = fits
 open_loss live Store n f fits = fits
 

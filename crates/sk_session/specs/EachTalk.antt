@@ -15,17 +15,25 @@ use Rattle.sk_session.specs.declared.live.At.{At}
 use Rattle.sk_session.specs.declared.live.At.TheVariants as at
 use Rattle.sk_session.specs.declared.session.Session.{Session}
 use Rattle.sk_session.specs.Moving.{wished}
-use Rattle.sk_session.specs.Speaks.{Stands, Pauses, JobSpeaks}
+use Rattle.sk_session.specs.Speaks.{Stands, Pauses, JobSpeaks, Over}
 
 abbrev pub label_at : ℕ → ℕ → Label
 label_at number k = record { session = number; k = k }
 
--- the records have these talks, one each, and their labels are numbered from k on
+-- a talk for each record, of which this holds, and the labels of the records are numbered from k on
+abbrev pub EachHas : (Record → Talk → Type 0) → ℕ → ℕ → List Record → List Talk → Type 0
+EachHas Has number k [] [] = Unit {0}
+EachHas Has number k [] (t ∷ ts) = ⊥
+EachHas Has number k (r ∷ rs) [] = ⊥
+EachHas Has number k (r ∷ rs) (t ∷ ts) = (r.label ≡ label_at number k) × Has r t × EachHas Has number (k + 1) rs ts
+
+-- the records have these talks
 abbrev pub EachTalks : List Table → ℕ → ℕ → List Record → List Talk → Type 0
-EachTalks catalog number k [] [] = Unit {0}
-EachTalks catalog number k [] (t ∷ ts) = ⊥
-EachTalks catalog number k (r ∷ rs) [] = ⊥
-EachTalks catalog number k (r ∷ rs) (t ∷ ts) = (r.label ≡ label_at number k) × Talks catalog r t × EachTalks catalog number (k + 1) rs ts
+EachTalks catalog number k rs ts = EachHas (Talks catalog) number k rs ts
+
+-- and are of transactions that are over
+abbrev pub EachOver : List Table → ℕ → ℕ → List Record → List Talk → Type 0
+EachOver catalog number k rs ts = EachHas (Over catalog) number k rs ts
 
 -- The last record is the place of a live transaction of this label, whose talk is the last; those before it are of transactions that are over.
 pub record LastLive (catalog : List Table) (number : ℕ) (records : List Record) (talks : List Talk) (label : Label) (talk : Talk) : Type 0 where
@@ -34,13 +42,13 @@ pub record LastLive (catalog : List Table) (number : ℕ) (records : List Record
   pub before : List Talk
   pub records_are : records ≡ front ++ place ∷ []
   pub talks_are : talks ≡ before ++ talk ∷ []
-  pub each : EachTalks catalog number 1 front before
+  pub each : EachOver catalog number 1 front before
   pub label_is : label ≡ label_at number (length front + 1)
 
 -- these are the talks of a session that stands there with these records
 abbrev pub HasTalks : List Table → ℕ → List Record → At → List Talk → Type 0
-HasTalks catalog number records at.Outside talks = EachTalks catalog number 1 records talks
-HasTalks catalog number records at.Ended talks = EachTalks catalog number 1 records talks
+HasTalks catalog number records at.Outside talks = EachOver catalog number 1 records talks
+HasTalks catalog number records at.Ended talks = EachOver catalog number 1 records talks
 HasTalks catalog number records (at.Inside live) talks = (talk : Talk) × LastLive catalog number records talks live.label talk × Stands catalog live talk
 HasTalks catalog number records (at.Stepping live c) talks = (talk : Talk) × LastLive catalog number records talks live.label talk × Pauses catalog live c talk
 HasTalks catalog number records (at.Asking live doing) talks = (talk : Talk) × LastLive catalog number records talks live.label talk × JobSpeaks catalog live doing talk

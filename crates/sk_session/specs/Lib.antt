@@ -9,3 +9,4 @@ pub mod Common
 pub mod SoFar
 pub mod Facts
 pub mod Printed
+pub mod Heard

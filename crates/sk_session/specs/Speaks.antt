@@ -20,7 +20,8 @@ use Rattle.sk_model.specs.Replies.{comes_to, key_read}
 use Rattle.sk_model.specs.Spoken.{is_lost}
 use Rattle.sk_model.specs.Talks.{Talk, opened, wrote}
 use Rattle.sk_model.specs.Asking.{keeper, first_engine, table_named, Rest, Answers, Opens, Reads, Puts, Makes, Asked}
-use Rattle.sk_model.specs.RecordTalks.{Converses, is_last, is_end, selection_made, EndReplyTo, lost_ending, left_by, is_check, Talks}
+use Rattle.sk_model.specs.Records.{is_committed}
+use Rattle.sk_model.specs.RecordTalks.{Converses, is_last, is_end, selection_made, EndReplyTo, lost_ending, left_by, is_open, is_check, Talks}
 use Rattle.sk_commit.specs.declared.committing.Committing.{Committing}
 use Rattle.sk_commit.specs.declared.committing.Stage.{Stage}
 use Rattle.sk_commit.specs.declared.committing.Stage.TheVariants.{Step, Leave}
@@ -203,11 +204,17 @@ JobSpeaks catalog live job.Select talk = Waits catalog live job.Select talk
 JobSpeaks catalog live (job.Read e t key) talk = Waits catalog live (job.Read e t key) talk
 JobSpeaks catalog live (job.Put e writes done r) talk = Waits catalog live (job.Put e writes done r) talk
 
+-- A transaction that is over has made just these calls: its record says how it ended, and where it is committed each step of its commit was taken.
+pub record Over (catalog : List Table) (r : Record) (talk : Talk) : Type 0 where
+  pub talks : Talks catalog r talk
+  pub ended : is_open r.ending ≡ false
+  pub whole : is_committed r.ending ≡ true → talks.rest ≡ []
+
 -- The live transaction of a session that stands there has made just these calls, and asks for the one that it waits for; where none is live
 -- any more, the last of the records has.
 abbrev pub SpeaksAt : List Table → List Record → Label → List Record → At → Turn → Talk → Type 0
-SpeaksAt catalog old label new at.Outside turn talk = (r : Record) × (new ≡ with_last old r) × (r.label ≡ label) × Talks catalog r talk
-SpeaksAt catalog old label new at.Ended turn talk = (r : Record) × (new ≡ with_last old r) × (r.label ≡ label) × Talks catalog r talk
+SpeaksAt catalog old label new at.Outside turn talk = (r : Record) × (new ≡ with_last old r) × (r.label ≡ label) × Over catalog r talk
+SpeaksAt catalog old label new at.Ended turn talk = (r : Record) × (new ≡ with_last old r) × (r.label ≡ label) × Over catalog r talk
 SpeaksAt catalog old label new (at.Inside live) turn talk = (new ≡ old) × (live.label ≡ label) × Stands catalog live talk
 SpeaksAt catalog old label new (at.Stepping live c) turn talk = (new ≡ old) × (live.label ≡ label) × Pauses catalog live c talk
 SpeaksAt catalog old label new (at.Asking live doing) turn talk = (new ≡ old) × (live.label ≡ label) × JobSpeaks catalog live doing talk × (turn ≡ turn_to.Ask (wished live doing))

@@ -1,12 +1,13 @@
-//! Who answers the calls that a session asks for, and a statement answered with them.
+//! Who answers the calls that a session asks for, and a statement answered with them, or a session left.
 
-ghost use Rattle.std.specs.Prelude.{◌≡◌, false, IfOk};
+ghost use Rattle.std.specs.Prelude.{◌≡◌, None, false, IfOk};
 ghost use Rattle.std.specs.Option.{option_copied};
 ghost use Rattle.sk_commit.specs.declared.asking.Wish.{Wish as AnyWish};
 ghost use Rattle.sk_commit.specs.declared.asking.Got.{Got as AnyGot};
 ghost use Rattle.sk_commit.specs.Fits.{WishFits};
-ghost use Rattle.sk_session.specs.Conversing.{is_early, IsAsked, Conversed};
+ghost use Rattle.sk_session.specs.Conversing.{is_early, IsAsked, TurnFits, Replied, Conversed, HasLeft, StandsLeft};
 ghost use Rattle.sk_session.specs.Printed.{LinePrints};
+ghost use Rattle.sk_session.specs.Heard.{LineRefuses};
 
 use crate::session::Session;
 use crate::turn::Turn;
@@ -32,6 +33,31 @@ pub trait Desk {
         ensures answered { IfOk result (λ got. answers self.old wish got self.new) };
 }
 
+/// The desk makes each call that the session asks for, until the session replies, or the desk has no answer.
+fn carry_on<K: Desk>(
+    alloc: Global,
+    session: &mut Session,
+    catalog: &Catalog,
+    desk: &mut K,
+    begun: Turn,
+) -> Result<Reply, Unanswered>
+    requires { TurnFits session.old.at begun }
+    ensures { IfOk result (λ said. Replied K.answers catalog.now session.old begun desk.old session.new desk.new said) }
+{
+    let mut turn = begun;
+    loop {
+        match turn {
+            Turn::Said(reply) => return Ok(reply),
+            Turn::Ask(wish) => {
+                // The count of the writes that were put fits its type, so there is a bound for the calls that are left.
+                let _done = session.puts_done();
+                let got = desk.answer(wish)?;
+                turn = session.take(alloc, catalog, got);
+            }
+        }
+    }
+}
+
 /// Answers a statement, or STEP where there is none: the desk makes each call that the session asks for, until the session replies, or the desk has no answer.
 pub fn converse<K: Desk>(
     alloc: Global,
@@ -44,17 +70,29 @@ pub fn converse<K: Desk>(
 
     // What was printed so far and is printed now is what the records say.
     ensures prints { IfOk result (λ said. LinePrints session.old (option_copied statement.entry) session.new said) }
+
+    // What the table of refusals refuses where the session stands is refused so, nothing else is answered with a word of the table, and the reply leads where it says.
+    ensures refuses { IfOk result (λ said. LineRefuses catalog.now session.old (option_copied statement.entry) session.new said) }
 {
-    let mut turn = session.start(alloc, catalog, statement);
-    loop {
-        match turn {
-            Turn::Said(reply) => return Ok(reply),
-            Turn::Ask(wish) => {
-                // The count of the writes that were put fits its type, so there is a bound for the calls that are left.
-                let _done = session.puts_done();
-                let got = desk.answer(wish)?;
-                turn = session.take(alloc, catalog, got);
-            }
-        }
-    }
+    let begun = session.start(alloc, catalog, statement);
+    carry_on(alloc, session, catalog, desk, begun)
+}
+
+/// Leaves the session, with the desk: a transaction that is open is rolled back, and no statement of it.
+pub fn leave_with<K: Desk>(
+    alloc: Global,
+    session: &mut Session,
+    catalog: &Catalog,
+    desk: &mut K,
+) -> Result<Reply, Unanswered>
+    ensures calls { IfOk result (λ said. HasLeft K.answers catalog.now session.old desk.old session.new desk.new said) }
+
+    // It stands outside of a transaction then, unless a commit is between two of its steps.
+    ensures stands { IfOk result (λ said. StandsLeft session.old.at session.new.at said) }
+
+    // As a STEP, it adds nothing to what the records say.
+    ensures prints { IfOk result (λ said. LinePrints session.old None session.new said) }
+{
+    let begun = session.leave(alloc);
+    carry_on(alloc, session, catalog, desk, begun)
 }

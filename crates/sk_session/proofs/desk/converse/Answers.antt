@@ -1,43 +1,22 @@
--- Each answer is one exchange more, and leaves fewer calls; with the reply the line is one line more of the session.
-use Rattle.std.specs.Prelude.{◌+◌, ◌<◌}
+-- The session began with the statement, and was carried on.
 use Rattle.std.specs.Option.{option_copied}
-use Rattle.std.proofs.Common.{sym, subst, arith}
-use Rattle.sk_session.specs.declared.turn.Turn.{Turn}
-use Rattle.sk_session.specs.declared.turn.Turn.TheVariants.{Ask}
-use Rattle.sk_session.specs.Conversing.{puts_done, HasExchanged}
-use Rattle.sk_session.proofs.Counting.{most_puts, Within, starts_within, turns_left}
-use Rattle.sk_session.proofs.Exchanging.{begins_to, goes_to, takes_left, takes_fewer, counts_at, asks_it}
-use Rattle.sk_session.proofs.Conversed.{conversed_prints}
+use Rattle.std.proofs.lemmas.Result.{IfOk-weaker}
+use Rattle.sk_session.proofs.Exchanging.{start_fits}
+use Rattle.sk_session.proofs.Conversed.{line_prints}
+use Rattle.sk_session.proofs.Obeyed.{line_refuses}
 use Rattle.sk_session.proofs.desk.converse.Goals as goal
 
-pub loop-turn-init : goal.loop-turn-init
-loop-turn-init g c = record {
-  asked = begins_to g.K.Desk.answers c.args.catalog.now c.args.session.now c.args.desk.now (option_copied c.args.statement) c.start-turn.new.self c.start-turn.result c.start-turn.ensures.moves;
-  waits = starts_within most_puts c.args.catalog.now c.args.session.now.number c.args.session.now.records c.args.session.now.at (option_copied c.args.statement) _ c.start-turn.ensures.moves.moves;
-}
+pub carry_on-requires : goal.carry_on-requires
+carry_on-requires g c = start_fits c.args.catalog.now c.args.session.now (option_copied c.args.statement) c.start-begun.new.self c.start-begun.result c.start-begun.ensures.moves
 
-pub loop-turn-preserved : goal.loop-turn-preserved
-loop-turn-preserved g c =
-    let waits : Within most_puts (most_puts + 14) c.loop-turn.session.at (Ask c.in-Ask.wish) = subst (λ (x : Turn). Within most_puts (most_puts + 14) c.loop-turn.session.at x) c.in-Ask.is c.loop-turn.invariant.waits in
-    record {
-      asked =
-          goes_to g.K.Desk.answers c.args.catalog.now most_puts (most_puts + 14) c.args.session.now c.args.desk.now (option_copied c.args.statement) c.loop-turn.session c.loop-turn.turn c.loop-turn.desk c.in-Ask.wish c.in_ok-got-in-Ask.got c.take-turn.new.self c.take-turn.result c.answer.new.self
-          c.loop-turn.invariant.asked c.loop-turn.invariant.waits c.in-Ask.is c.in_ok-got-in-Ask.ensures.fits c.in_ok-got-in-Ask.ensures.not_early c.in_ok-got-in-Ask.ensures.answered c.take-turn.ensures.moves;
-      waits = takes_left most_puts c.args.catalog.now c.loop-turn.session c.take-turn.new.self c.in-Ask.wish c.take-turn.result c.in_ok-got-in-Ask.got (most_puts + 14) waits c.in_ok-got-in-Ask.ensures.not_early c.take-turn.ensures.moves;
-    }
+pub returns-clause-prints : goal.returns-clause-prints
+returns-clause-prints g c =
+    IfOk-weaker c.carry_on.result _ _
+    (λ said r. line_prints g.K.Desk.answers c.args.catalog.now c.args.session.now c.start-begun.new.self c.start-begun.result c.args.desk.now c.carry_on.new.session c.carry_on.new.desk said r (option_copied c.args.statement) c.start-begun.ensures.moves)
+    c.carry_on.ensures
 
-pub loop-turn-smaller : goal.loop-turn-smaller
-loop-turn-smaller g c =
-    let waits : Within most_puts (most_puts + 14) c.loop-turn.session.at (Ask c.in-Ask.wish) = subst (λ (x : Turn). Within most_puts (most_puts + 14) c.loop-turn.session.at x) c.in-Ask.is c.loop-turn.invariant.waits in
-    let counts : puts_done c.loop-turn.session.at < most_puts = omega arith in
-    subst (λ (x : Turn). turns_left most_puts c.take-turn.new.self.at c.take-turn.result < turns_left most_puts c.loop-turn.session.at x) (sym c.in-Ask.is)
-    (takes_fewer most_puts c.args.catalog.now c.loop-turn.session c.take-turn.new.self c.in-Ask.wish c.take-turn.result c.in_ok-got-in-Ask.got (most_puts + 14) waits c.in_ok-got-in-Ask.ensures.not_early (counts_at most_puts c.loop-turn.session.at counts) c.take-turn.ensures.moves)
-
-pub answer-requires : goal.answer-requires
-answer-requires g c =
-    asks_it most_puts (most_puts + 14) c.loop-turn.session.at c.in-Ask.wish (subst (λ (x : Turn). Within most_puts (most_puts + 14) c.loop-turn.session.at x) c.in-Ask.is c.loop-turn.invariant.waits)
-
-pub returns-in-Said-clause-prints : goal.returns-in-Said-clause-prints
-returns-in-Said-clause-prints g c =
-    conversed_prints g.K.Desk.answers c.args.catalog.now c.args.session.now c.args.desk.now (option_copied c.args.statement) c.loop-turn.session c.loop-turn.desk c.in-Said.reply
-    (subst (λ (x : Turn). HasExchanged g.K.Desk.answers c.args.catalog.now c.args.session.now c.args.desk.now (option_copied c.args.statement) c.loop-turn.session x c.loop-turn.desk) c.in-Said.is c.loop-turn.invariant.asked)
+pub returns-clause-refuses : goal.returns-clause-refuses
+returns-clause-refuses g c =
+    IfOk-weaker c.carry_on.result _ _
+    (λ said r. line_refuses g.K.Desk.answers c.args.catalog.now c.args.session.now c.start-begun.new.self c.start-begun.result c.args.desk.now c.carry_on.new.session c.carry_on.new.desk said r (option_copied c.args.statement) c.start-begun.ensures.moves)
+    c.carry_on.ensures
