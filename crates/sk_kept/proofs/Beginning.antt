@@ -15,7 +15,7 @@ use Rattle.sk_core.specs.Traces.{In}
 use Rattle.sk_core.proofs.Members.{each_in, in_each}
 use Rattle.sk_session.specs.Common.{Common}
 use Rattle.sk_session.specs.Facts.{Facts, fresh_facts}
-use Rattle.sk_kept.specs.Held.{Trace, drawn_of, IsHeld, Alone, Made, Drew, Maker, Caller, Held}
+use Rattle.sk_kept.specs.Held.{Trace, drawn_of, IsHeld, Alone, Made, Drew, Drawer, Maker, Caller, Held}
 use Rattle.sk_kept.proofs.Middles.{in_middle, middle_other, each_middle}
 use Rattle.sk_kept.proofs.Steps.{filter_none}
 
@@ -39,6 +39,9 @@ module _ (first : Point) (points : List Point) (c : Common) (pre : List Trace) (
 
   maker_more : (q : Point) → Maker (pre ++ post) q → Maker (pre ++ t ∷ post) q
   maker_more q h = record { who = h.who; among = middle_other h.who pre t post h.among; made = h.made }
+
+  drawer_more : (name : EngineName) (n : ℕ) → Drawer name (pre ++ post) n → Drawer name (pre ++ t ∷ post) n
+  drawer_more name n h = record { who = h.who; among = middle_other h.who pre t post h.among; drew = h.drew }
 
   -- no entry is of the new label yet
   no_entry : (j : Entry) → Caller (pre ++ post) j → is_by l j ≡ false
@@ -70,4 +73,5 @@ module _ (first : Point) (points : List Point) (c : Common) (pre : List Trace) (
     among = each_middle (λ (u : Trace). Each (λ (q : Point). In q points) u.facts.made) pre t post held.among tt;
     once = alone_more Made pre t post (λ q i. i) held.once;
     unlike = λ name. alone_more (Drew name) pre t post (drew_nothing name) (held.unlike name);
+    drawn = λ name n low le. drawer_more name n (held.drawn name n low le);
   }

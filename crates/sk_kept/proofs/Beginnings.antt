@@ -1,10 +1,13 @@
 -- What holds at every moment holds at first.
-use Rattle.std.specs.Prelude.{◌≡◌, ℕ, ◌≤◌, List, [], ◌∷◌, None, map}
+use Rattle.std.specs.Prelude.{◌≡◌, ℕ, ◌<◌, ◌≤◌, List, [], ◌∷◌, None, map}
 use Rattle.std.proofs.Common.{refl, sym, ap, subst, ◌∙◌, arith}
 use Rattle.sk_rows.specs.declared.table.Table.{Table}
 use Rattle.sk_model.specs.declared.engine.EngineName.{EngineName}
+use Rattle.sk_model.specs.declared.engine.EngineName.TheVariants.{Mem, Store}
 use Rattle.sk_model.specs.declared.point.Point.{Point}
 use Rattle.sk_model.proofs.Lists.{Each}
+use Rattle.sk_core.specs.State.{counter}
+use Rattle.sk_weave.specs.Reads.{number_at}
 use Rattle.sk_weave.specs.AheadLaws.{counters_of}
 use Rattle.sk_weave.proofs.Aheads.{at_first}
 use Rattle.sk_session.specs.Common.{Common}
@@ -21,6 +24,13 @@ module _ (catalog : List Table) (first : Point) (c : Common) (h : IsFirst first 
   no_traces [] = refl
   no_traces (n ∷ ns) = no_traces ns
 
+  not_yet : (name : EngineName) (n : ℕ) → number_at name first < n → n ≤ counter name c.regs → ⊥
+  not_yet name n low le = let e : counter name c.regs ≡ number_at name first = at name in omega arith
+    where
+      at : (name : EngineName) → counter name c.regs ≡ number_at name first
+      at Mem = h.mem
+      at Store = h.store
+
   held : Held first [] c []
   held = record {
     common = h.common;
@@ -31,6 +41,7 @@ module _ (catalog : List Table) (first : Point) (c : Common) (h : IsFirst first 
     among = tt;
     once = λ x t u i k a b. absurd i;
     unlike = λ name x t u i k a b. absurd i;
+    drawn = λ name n low le. absurd (not_yet name n low le);
   }
 
   found : Found c [] (counters_of c.regs) []

@@ -51,9 +51,19 @@ pub record Change (r s : Regs) (f g : Facts) : Type 0 where
   pub store : r.store ≤ s.store
   pub drew_mem : Draws r.mem s.mem f.drew_mem g.drew_mem
   pub drew_store : Draws r.store s.store f.drew_store g.drew_store
+  -- a number that a counter has come to was drawn
+  pub next_mem : (n : ℕ) → r.mem < n → n ≤ s.mem → g.drew_mem ≡ Some n
+  pub next_store : (n : ℕ) → r.store < n → n ≤ s.store → g.drew_store ≡ Some n
   pub pair : PairIf r.points f.mem f.store → PairIf s.points g.mem g.store
   pub within : Within (counters_of r) f → Within (counters_of s) g
   pub label : g.label ≡ f.label
+
+-- a counter that has not moved has come to no number
+unmoved : {A : Type 0} (m k n : ℕ) → k ≡ m → m < n → n ≤ k → A
+unmoved m k n e l g = absurd (never e l g)
+  where
+    never : k ≡ m → m < n → n ≤ k → ⊥
+    never e l g = omega arith
 
 -- ---- points that are appended
 
@@ -103,6 +113,8 @@ same r s f e = record {
   store = rw e (omega arith);
   drew_mem = inl refl;
   drew_store = inl refl;
+  next_mem = λ n. unmoved r.mem s.mem n (ap (λ (x : Regs). x.mem) e);
+  next_store = λ n. unmoved r.store s.store n (ap (λ (x : Regs). x.store) e);
   pair = λ h. rw e h;
   within = λ h. rw e h;
   label = refl;
@@ -123,6 +135,8 @@ adds r s q f sound last e =
       store = omega arith;
       drew_mem = inl refl;
       drew_store = inl refl;
+      next_mem = λ n. unmoved r.mem s.mem n mem;
+      next_store = λ n. unmoved r.store s.store n store;
       pair = λ h. subst (λ ps. PairIf ps f.mem f.store) (sym points) (pair_grows r.points (q ∷ []) f.mem f.store h);
       within = λ h. record { mem = rw mem h.mem; store = rw store h.store; drew_mem = rw mem h.drew_mem; drew_store = rw store h.drew_store };
       label = refl;
@@ -157,6 +171,8 @@ draws_mem r s floor n f d e =
       store = omega arith;
       drew_mem = inr (n, refl, omega arith, omega arith);
       drew_store = inl refl;
+      next_mem = λ k l g. let is : n ≡ k = omega arith in ap Some is;
+      next_store = λ k. unmoved r.store s.store k store;
       pair = λ h. rw points h;
       within = λ h. record {
         mem = at_most_more f.mem r.mem s.mem (omega arith) h.mem;
@@ -183,6 +199,8 @@ draws_store r s floor n f d e =
       store = omega arith;
       drew_mem = inl refl;
       drew_store = inr (n, refl, omega arith, omega arith);
+      next_mem = λ k. unmoved r.mem s.mem k mem;
+      next_store = λ k l g. let is : n ≡ k = omega arith in ap Some is;
       pair = λ h. rw points h;
       within = λ h. record {
         mem = rw mem h.mem;
@@ -283,6 +301,8 @@ opens_mem r s n f e l none =
       store = c.store;
       drew_mem = c.drew_mem;
       drew_store = c.drew_store;
+      next_mem = c.next_mem;
+      next_store = c.next_store;
       pair = λ h. subst (λ o. PairIf s.points (Some n) o) (sym none) tt;
       within = λ h. let w : Within (counters_of s) f = c.within h in record { mem = rw e l; store = w.store; drew_mem = w.drew_mem; drew_store = w.drew_store };
       label = refl;
@@ -300,6 +320,8 @@ opens_store r s n f e l pair =
       store = c.store;
       drew_mem = c.drew_mem;
       drew_store = c.drew_store;
+      next_mem = c.next_mem;
+      next_store = c.next_store;
       pair = λ h. rw e pair;
       within = λ h. let w : Within (counters_of s) f = c.within h in record { mem = w.mem; store = rw e l; drew_mem = w.drew_mem; drew_store = w.drew_store };
       label = refl;

@@ -100,10 +100,11 @@ module _ (catalog : List Table) (rows : Tables) (first : Point) (points : List P
   founds all [] b m = tt
   founds all (x ∷ xs) b m = ((m.0.seen, subst (Found c all m.0.seen) (traces_same x b.0) m.0.found), founds all xs b.1 m.1)
 
-  all_is : all_traces (map member_of players) ≡ traces_of_play p
+  -- the transactions by either way
+  pub all_is : all_traces (map member_of players) ≡ traces_of_play p
   all_is = all_same players h.between
 
-  plays : Plays p c
+  pub plays : Plays p c
   plays = record {
     tables = h.tables;
     opening = h.opening;

@@ -1,5 +1,6 @@
 pub mod Middles
 pub mod Changes
+pub mod Drawing
 pub mod Steps
 pub mod Plays
 pub mod Glimpses

@@ -310,11 +310,11 @@ module _ (first : Point) (points : List Point) (c d : Common) (before : List Mem
       (label_apart before m after takes.front takes.before takes.last.label (each_weaker (IsMember c (all_traces (before ++ m ∷ after))) (λ (r : Member). Numbered r.number 1 r.facts r.talks) (λ r k. k.numbered) (before ++ after) others) running.differ last.numbered last.label) i
 
   pub moved : Change c.regs d.regs t.facts u.facts
-  moved = ch first points c d pre t post asked got held answered takes.fits may.0 takes.own apart
+  moved = ch first points c d pre t post asked got held answered takes.fits may.0 may.1 takes.own apart
 
   held_then : Held first (points ++ moved.made) d (pre ++ u ∷ post)
   unfolding moved
-  held_then = step_held first points c d pre t post asked got held answered takes.fits may.0 takes.own apart
+  held_then = step_held first points c d pre t post asked got held answered takes.fits may.0 may.1 takes.own apart
 
   -- ---- the other sessions
 

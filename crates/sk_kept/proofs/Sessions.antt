@@ -5,25 +5,19 @@ use Rattle.std.proofs.lemmas.List.{append-nil, append_assoc, length-map}
 use Rattle.std.proofs.lemmas.Bool.{false≢true, cases_Bool}
 use Rattle.sk_rows.specs.declared.table.Table.{Table}
 use Rattle.sk_rows.specs.declared.statement.Statement.{Statement}
-use Rattle.sk_model.specs.declared.label.Label.{Label}
 use Rattle.sk_model.specs.declared.engine.EngineName.{EngineName}
 use Rattle.sk_model.specs.declared.engine.EngineName.TheVariants.{Mem, Store}
-use Rattle.sk_model.specs.declared.record.TxKind.{TxKind}
-use Rattle.sk_model.specs.declared.record.TxKind.TheVariants as kind
-use Rattle.sk_model.specs.declared.record.Record.{Record}
 use Rattle.sk_model.specs.declared.point.Point.{Point}
 use Rattle.sk_model.specs.declared.reply.Reply.{Reply}
-use Rattle.sk_model.specs.declared.call.EngineCall.{EngineCall}
 use Rattle.sk_model.specs.declared.call.EngineCall.TheVariants as call
 use Rattle.sk_model.specs.Asking.{first_engine}
 use Rattle.sk_model.specs.RecordTalks.{number_or_none}
-use Rattle.sk_model.specs.declared.record.Ending.{Ending}
 use Rattle.sk_weave.specs.declared.answer.Selected.{Selected}
 use Rattle.sk_model.specs.Talks.{Talk}
-use Rattle.sk_model.proofs.Lists.{Each, each_front, each_end}
+use Rattle.sk_model.proofs.Lists.{Each}
 use Rattle.sk_model.specs.declared.step.StepName.TheVariants.{CloseMem, CloseStore, DrawMem, DrawStore, Check, StampMem, StampStore}
 use Rattle.sk_model.specs.declared.commit.Write.{Write}
-use Rattle.sk_model.specs.Asking.{read_call, put_call}
+use Rattle.sk_model.specs.Asking.{read_call}
 use Rattle.sk_rows.specs.declared.value.Value.{Value}
 use Rattle.sk_commit.specs.declared.committing.Committing.{Committing}
 use Rattle.sk_commit.specs.declared.committing.Stage.{Stage}
@@ -45,23 +39,23 @@ use Rattle.sk_session.specs.declared.live.At.{At}
 use Rattle.sk_session.specs.declared.live.At.TheVariants as at
 use Rattle.sk_session.specs.declared.session.Session.{Session}
 use Rattle.sk_session.specs.Moving.{on, counter_wish, put_wish, wished, record_now, with_last, label_after}
-use Rattle.sk_session.specs.Starting.{Starts, Takes, moved_to}
+use Rattle.sk_session.specs.Starting.{Starts, Takes, Leaves, moved_to}
 use Rattle.sk_session.specs.Speaks.{SpeaksAt, BegunAt, StartKept, TakeKept}
 use Rattle.sk_session.specs.EachTalk.{label_at, LastLive, HasTalks, SessionTalks, grown, has_begun, talks_from, AnswerFits, call_made, IsBetween}
 use Rattle.sk_session.specs.Facts.{Facts, facts_of, facts_in, facts_after, last_changed, fresh_facts, BegunFacts, AreBy, FitsFacts, AsksFor, AsksAt, OpensBy, OpensAt, IsOpening, facts_taken}
 use Rattle.sk_session.specs.SoFar.{so_far}
-use Rattle.sk_session.specs.Conversing.{is_early, Exchange, calls_made, Exchanges, HasExchanged, Conversed}
+use Rattle.sk_session.specs.Conversing.{is_early, Exchange, Exchanges, Replied}
 use Rattle.sk_session.specs.Common.{Common, Answered}
-use Rattle.sk_session.proofs.Recorded.{grown_seam, start_talks, take_talks}
-use Rattle.sk_session.proofs.Changed.{last_facts, take_facts, take_opens, start_facts, start_opens}
+use Rattle.sk_session.proofs.Recorded.{grown_seam, start_talks, take_talks, leave_talks}
+use Rattle.sk_session.proofs.Changed.{last_facts, take_facts, take_opens, start_facts, start_opens, leave_facts, leave_opens}
 use Rattle.sk_session.proofs.Wished.{asks_right}
-use Rattle.sk_session.proofs.Counting.{job_left, Within, starts_within}
-use Rattle.sk_session.proofs.Exchanging.{takes_left}
+use Rattle.sk_session.proofs.Counting.{job_left, Within, starts_within, leaves_within}
+use Rattle.sk_session.proofs.Exchanging.{takes_left, leave_waits}
 use Rattle.sk_session.proofs.Taken.{takes_keep}
 use Rattle.sk_session.proofs.Left.{starts_keep}
 use Rattle.sk_kept.specs.Running as run
 use Rattle.sk_kept.specs.Running.{Member, IsRunning, OpensNext, AsksNext, OpensNothing, AsksOn, Begins}
-use Rattle.sk_kept.specs.Sessions.{Player, waited, member_of, IsRun, AnswersRight, GoesOn, LinesKeep}
+use Rattle.sk_kept.specs.Sessions.{Player, waited, member_of, IsRun, AnswersRight, GoesOn, LinesKeep, LeavesKeep}
 use Rattle.sk_kept.proofs.Middles.{each_others, each_focus, each_middle}
 use Rattle.sk_kept.proofs.Founds.{same_last}
 use Rattle.sk_kept.proofs.Running.{takes_keep as call_keeps, asks_keep}
@@ -204,6 +198,17 @@ module _ (catalog : List Table) (old : Session) (talks : List Talk) (s : Option 
 
   pub start_asks : AsksOn (member_of player) (member_of player_then) ⊎ Begins (member_of player) (member_of player_then)
   start_asks = starts_by (has_begun old.at new.at) refl
+
+-- ---- leaving
+
+leave_asks : (catalog : List Table) (old : Session) (talks : List Talk) (new : Session) (t : Turn) → IsBetween old.at → SessionTalks catalog old talks → Leaves old new t → AsksOn (member_of (record { session = old; talks = talks })) (member_of (record { session = new; talks = talks }))
+leave_asks catalog old talks new t between h leaves = record {
+  number = leaves.number;
+  facts = leave_facts old new t leaves;
+  talks = refl;
+  opens = nothing_opened new.at (leave_opens old new t between leaves);
+  asks = asks_next catalog new talks (leave_talks old new t leaves catalog talks h);
+}
 
 -- ---- an answer
 
@@ -362,6 +367,10 @@ start_turn catalog old talks s new t between h starts = turn_at 0 (0 + 14) new.a
         (subst (λ y. SpeaksAt catalog old.records x.label new.records y t k.0) e (subst (λ y. StartKept catalog old.number old.records y (moved_to new t)) o (starts_keep catalog old s new t starts) k.0 k.2)).3
     go live doing e (at.Asking x d) o = absurd (subst IsBetween o between)
 
+-- as a session is left
+leave_turn : (old new : Session) (t : Turn) → IsBetween old.at → Leaves old new t → TurnAt new.at t
+leave_turn old new t between leaves = turn_at 0 3 new.at t (leaves_within 0 old.records old.at _ leaves.moves) (leave_waits old new t between leaves)
+
 -- behind an answer
 take_turn : (catalog : List Table) (old : Session) (talks : List Talk) (got : Got) (new : Session) (t : Turn) (live : Live) (doing : Job) → old.at ≡ at.Asking live doing → SessionTalks catalog old talks → WishFits (wished live doing) got → is_early got ≡ false → Takes catalog old got new t
     → TurnAt new.at t
@@ -473,14 +482,25 @@ module _ {D : Type 0} (answers : D → Wish → Got → D → Type 0) (stands : 
   exchanges_keep (e ∷ made) points c s t talks d end last desk x at_turn stood r =
       one_more e made end last desk (λ ps k y u ts f z v w q. exchanges_keep made ps k y u ts f end last desk z v w q) points c s t talks d x stood r s.at refl (subst (TurnAt s.at) x.0 at_turn)
 
+  -- what a session began with, it was carried on with until it replied
+  carried_on : (points : List Point) (c : Common) (old : Session) (talks : List Talk) (begun : Session) (asked : Turn) (grows : List Talk) (desk : D) (new : Session) (said : Reply) (desk_then : D)
+      → (SessionTalks catalog old talks → SessionTalks catalog begun grows × (AsksOn (member_of (record { session = old; talks = talks })) (member_of (record { session = begun; talks = grows })) ⊎ Begins (member_of (record { session = old; talks = talks })) (member_of (record { session = begun; talks = grows }))) × TurnAt begun.at asked)
+      → stands desk c → IsRun catalog first points c (with_session old talks) → Replied answers catalog begun asked desk new desk_then said
+      → GoesOn stands catalog first points c before new after desk_then × IsBetween new.at
+  carried_on points c old talks begun asked grows desk new said desk_then begins stood r x =
+      let has : Others × SessionTalks catalog old talks = talks_of old talks r.talks in
+      let b : SessionTalks catalog begun grows × (AsksOn (member_of (record { session = old; talks = talks })) (member_of (record { session = begun; talks = grows })) ⊎ Begins (member_of (record { session = old; talks = talks })) (member_of (record { session = begun; talks = grows }))) × TurnAt begun.at asked = begins has.1 in
+      let start : IsRunning first points c (map member_of before ++ member_of (record { session = begun; talks = grows }) ∷ map member_of after) =
+      asks_keep first points c (map member_of before) (member_of (record { session = old; talks = talks })) (member_of (record { session = begun; talks = grows })) (map member_of after) (running_of points c old talks r) b.1 in
+      let all : GoesOn stands catalog first points c before new after desk_then × TurnAt new.at (turn.Said said) = exchanges_keep x.made points c begun asked grows desk new (turn.Said said) desk_then x.goes b.2 stood (run_of points c begun grows start has.0 b.0) in
+      (all.0, said_between new.at said all.1)
+
 pub lines_keep : {D : Type 0} (answers : D → Wish → Got → D → Type 0) (stands : D → Common → Type 0) → LinesKeep answers stands
 lines_keep {D = D} answers stands right catalog first points c before old talks after desk s new desk_then said stood r between x =
-    let has : Each (λ (p : Player). SessionTalks catalog p.session p.talks) (before ++ after) × SessionTalks catalog old talks = talks_of answers stands right catalog first before after old talks r.talks in
-    let start : IsRunning first points c (map member_of before ++ member_of (record { session = x.first; talks = talks_from old.at x.first.at talks }) ∷ map member_of after) =
-    asks_keep first points c (map member_of before) (member_of (record { session = old; talks = talks })) (member_of (record { session = x.first; talks = talks_from old.at x.first.at talks })) (map member_of after)
-    (running_of answers stands right catalog first before after points c old talks r) (start_asks catalog old talks s x.first x.asked between has.1 x.starts) in
-    let run_then : IsRun catalog first points c (before ++ record { session = x.first; talks = talks_from old.at x.first.at talks } ∷ after) =
-    run_of answers stands right catalog first before after points c x.first (talks_from old.at x.first.at talks) start has.0 (start_talks catalog old s x.first x.asked x.starts talks has.1) in
-    let all : GoesOn stands catalog first points c before new after desk_then × TurnAt new.at (turn.Said said) =
-    exchanges_keep answers stands right catalog first before after x.made points c x.first x.asked (talks_from old.at x.first.at talks) desk new (turn.Said said) desk_then x.goes (start_turn catalog old talks s x.first x.asked between has.1 x.starts) stood run_then in
-    (all.0, said_between new.at said all.1)
+    carried_on answers stands right catalog first before after points c old talks x.first x.asked (talks_from old.at x.first.at talks) desk new said desk_then
+    (λ h. (start_talks catalog old s x.first x.asked x.starts talks h, start_asks catalog old talks s x.first x.asked between h x.starts, start_turn catalog old talks s x.first x.asked between h x.starts)) stood r x.replied
+
+pub leaves_keep : {D : Type 0} (answers : D → Wish → Got → D → Type 0) (stands : D → Common → Type 0) → LeavesKeep answers stands
+leaves_keep {D = D} answers stands right catalog first points c before old talks after desk new desk_then said stood r between x =
+    carried_on answers stands right catalog first before after points c old talks x.first x.asked talks desk new said desk_then
+    (λ h. (leave_talks old x.first x.asked x.leaves catalog talks h, inl (leave_asks catalog old talks x.first x.asked between h x.leaves), leave_turn old x.first x.asked between x.leaves)) stood r x.replied

@@ -2,7 +2,7 @@
 use Rattle.std.specs.Prelude.{◌≡◌, ℕ, ◌<◌, ◌≤◌, List, [], ◌∷◌, ◌++◌, Option, Some, None, Bool, true, false, ◌⊎◌}
 use Rattle.std.proofs.Common.{refl, sym, ap, subst, ◌∙◌, inl, inr, ⊎_elim, arith}
 use Rattle.std.specs.List.{filter}
-use Rattle.std.proofs.lemmas.Bool.{false≢true}
+use Rattle.std.proofs.lemmas.Bool.{cases_lt, false≢true}
 use Rattle.std.proofs.lemmas.List.{append-nil}
 use Rattle.std.proofs.lemmas.List.Elements.{filter-append}
 use Rattle.sk_model.specs.declared.label.Label.{Label}
@@ -15,7 +15,7 @@ use Rattle.sk_model.specs.Talks.{OwnCall, Talk, calls_in, tx_of, is_tx, is_by, e
 use Rattle.sk_model.proofs.Labels.{same_itself, not_same_back}
 use Rattle.sk_model.proofs.Lists.{Each, each_append, each_weaker, filter_all}
 use Rattle.sk_weave.specs.AheadLaws.{counters_of}
-use Rattle.sk_weave.specs.Reads.{PairIf}
+use Rattle.sk_weave.specs.Reads.{PairIf, number_at}
 use Rattle.sk_weave.specs.Registry.{Regs}
 use Rattle.sk_core.specs.Traces.{In}
 use Rattle.sk_core.specs.State.{counter}
@@ -25,10 +25,11 @@ use Rattle.sk_commit.specs.declared.asking.Wish.{Wish}
 use Rattle.sk_commit.specs.declared.asking.Got.{Got}
 use Rattle.sk_commit.specs.Fits.{WishFits, own_call}
 use Rattle.sk_session.specs.Common.{Common, Answered}
-use Rattle.sk_session.specs.Facts.{Facts, facts_after, AreBy}
-use Rattle.sk_kept.specs.Held.{Trace, trace_after, drawn_of, Within, IsHeld, Alone, Made, Drew, Maker, Caller, Held, MayOpen}
+use Rattle.sk_session.specs.Facts.{Facts, FitsFacts, facts_after, AreBy}
+use Rattle.sk_kept.specs.Held.{Trace, trace_after, drawn_of, Within, IsHeld, Alone, Made, Drew, Drawer, Maker, Caller, Held, MayOpen}
 use Rattle.sk_kept.proofs.Middles.{in_middle, middle_other, middle_self, each_others, each_focus, each_middle, alone_moved}
 use Rattle.sk_kept.proofs.Changes.{Draws, Change, change, pair_grows, at_most_more}
+use Rattle.sk_kept.proofs.Drawing.{drew_stays}
 
 -- what none pass leaves none
 pub filter_none : {X : Type 0} (p : X → Bool) (xs : List X) → Each (λ x. p x ≡ false) xs → filter p xs ≡ []
@@ -43,7 +44,7 @@ none_of : (l m : Label) (js : List Entry) → same_label m l ≡ false → Each 
 none_of l m js d h = filter_none (is_by m) js (each_weaker (λ (j : Entry). tx_of j.call ≡ Some l) (λ j. is_by m j ≡ false) (λ j e. ap (is_tx m) e ∙ d) js h)
 
 -- the counter of an engine, as it was and as it is
-within_drew : (name : EngineName) (c : Common) (f : Facts) (n : ℕ) → Within (counters_of c.regs) f → drawn_of name f ≡ Some n → n ≤ counter name c.regs
+pub within_drew : (name : EngineName) (c : Common) (f : Facts) (n : ℕ) → Within (counters_of c.regs) f → drawn_of name f ≡ Some n → n ≤ counter name c.regs
 within_drew Mem c f n w e = subst (λ o. AtMost o c.regs.mem) e w.drew_mem
 within_drew Store c f n w e = subst (λ o. AtMost o c.regs.store) e w.drew_store
 
@@ -51,8 +52,12 @@ draws_of : (name : EngineName) {r s : Regs} {f g : Facts} → Change r s f g →
 draws_of Mem h = h.drew_mem
 draws_of Store h = h.drew_store
 
+next_of : (name : EngineName) {r s : Regs} {f g : Facts} → Change r s f g → (n : ℕ) → counter name r < n → n ≤ counter name s → drawn_of name g ≡ Some n
+next_of Mem h = h.next_mem
+next_of Store h = h.next_store
+
 module _ (first : Point) (points : List Point) (c d : Common) (pre : List Trace) (t : Trace) (post : List Trace) (asked : Wish) (got : Got)
-    (held : Held first points c (pre ++ t ∷ post)) (answered : Answered c asked got d) (fits : WishFits asked got) (may : MayOpen c.regs t.facts asked)
+    (held : Held first points c (pre ++ t ∷ post)) (answered : Answered c asked got d) (fits : WishFits asked got) (may : MayOpen c.regs t.facts asked) (asks : FitsFacts t.facts asked)
     (calls : AreBy t.facts.label (own_call asked got)) (apart : (u : Trace) → In u (pre ++ post) → same_label t.facts.label u.facts.label ≡ false) where
   abbrev pub u : Trace
   u = trace_after asked got t
@@ -150,6 +155,18 @@ module _ (first : Point) (points : List Point) (c d : Common) (pre : List Trace)
       absurd (omega arith)))
       (draws_of name ch)
 
+  drawer_stays : (name : EngineName) (n : ℕ) → Drawer name (pre ++ t ∷ post) n → Drawer name (pre ++ u ∷ post) n
+  drawer_stays name n h = ⊎_elim
+      (λ (e : h.who ≡ t). record { who = u; among = middle_self pre u post; drew = drew_stays name n t asked got asks fits (subst (λ (v : Trace). Drew name v n) e h.drew) })
+      (λ (i : In h.who (pre ++ post)). record { who = h.who; among = middle_other h.who pre u post i; drew = h.drew })
+      (in_middle h.who pre t post h.among)
+
+  drawer : (name : EngineName) (n : ℕ) → number_at name first < n → n ≤ counter name d.regs → Drawer name (pre ++ u ∷ post) n
+  drawer name n low le = ⊎_elim
+      (λ (new : counter name c.regs < n). record { who = u; among = middle_self pre u post; drew = next_of name ch n new le })
+      (λ (old : n ≤ counter name c.regs). drawer_stays name n (held.drawn name n low old))
+      (cases_lt (counter name c.regs) n)
+
   pub step_held : Held first (points ++ ch.made) d (pre ++ u ∷ post)
   step_held = record {
     common = answered.common;
@@ -165,4 +182,5 @@ module _ (first : Point) (points : List Point) (c d : Common) (pre : List Trace)
         (each_append (λ (q : Point). In q (points ++ ch.made)) t.facts.made ch.made (among_more t.facts.made (each_focus (λ (v : Trace). Each (λ (q : Point). In q points) v.facts.made) pre t post held.among)) (in_each _ ch.made (λ q i. in_append q points ch.made i))));
     once = alone_moved Made pre t u post labels_apart gained_point held.once;
     unlike = λ name. alone_moved (Drew name) pre t u post labels_apart (gained_number name) (held.unlike name);
+    drawn = drawer;
   }

@@ -12,11 +12,13 @@ use Rattle.sk_kept.specs.Sessions.{Player, IsRun}
 abbrev pub new_player : ℕ → Player
 new_player number = record { session = fresh number; talks = [] }
 
--- no call was made yet, and there is the first point alone
+-- no call was made yet, no number was drawn, and there is the first point alone
 pub record IsFirst (first : Point) (c : Common) : Type 0 where
   pub common : IsCommon c
   pub journals : (name : EngineName) → c.journals name ≡ []
   pub points : c.regs.points ≡ first ∷ []
+  pub mem : c.regs.mem ≡ first.a
+  pub store : c.regs.store ≡ first.b
 
 -- What holds at every moment holds at first, of sessions with unlike numbers.
 abbrev pub FirstIsRun : Type 0

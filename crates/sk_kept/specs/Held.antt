@@ -1,5 +1,5 @@
 -- The transactions of a run as far as they have come, and what holds of them, of the journals and of the registry at every moment.
-use Rattle.std.specs.Prelude.{◌≡◌, ℕ, ◌≤◌, List, [], ◌∷◌, ◌++◌, Option, Some, None}
+use Rattle.std.specs.Prelude.{◌≡◌, ℕ, ◌<◌, ◌≤◌, List, [], ◌∷◌, ◌++◌, Option, Some, None}
 use Rattle.std.specs.List.{AllByRecursion}
 use Rattle.sk_model.specs.declared.engine.EngineName.{EngineName}
 use Rattle.sk_model.specs.declared.engine.EngineName.TheVariants.{Mem, Store}
@@ -11,7 +11,8 @@ use Rattle.sk_model.specs.Records.{AtMost}
 use Rattle.sk_model.specs.Talks.{Talk, calls_in, tx_of, entries_by}
 use Rattle.sk_weave.specs.Registry.{Regs}
 use Rattle.sk_weave.specs.AheadLaws.{Counters, counters_of}
-use Rattle.sk_weave.specs.Reads.{PairIf}
+use Rattle.sk_weave.specs.Reads.{PairIf, number_at}
+use Rattle.sk_core.specs.State.{counter}
 use Rattle.sk_core.specs.Traces.{In}
 use Rattle.sk_commit.specs.declared.asking.Wish.{Wish}
 use Rattle.sk_commit.specs.declared.asking.Wish.TheVariants as wish
@@ -58,6 +59,12 @@ Made t q = In q t.facts.made
 abbrev pub Drew : EngineName → Trace → ℕ → Type 0
 Drew name t n = drawn_of name t.facts ≡ Some n
 
+-- one of these transactions drew n from the engine's counter
+pub record Drawer (name : EngineName) (ts : List Trace) (n : ℕ) : Type 0 where
+  pub who : Trace
+  pub among : In who ts
+  pub drew : Drew name who n
+
 -- one of these transactions made the point
 pub record Maker (ts : List Trace) (q : Point) : Type 0 where
   pub who : Trace
@@ -81,8 +88,9 @@ pub record Held (first : Point) (points : List Point) (c : Common) (ts : List Tr
   pub makers : AllByRecursion (Maker ts) points
   pub among : AllByRecursion (λ (t : Trace). AllByRecursion (λ (q : Point). In q points) t.facts.made) ts
   pub once : Alone Made ts
-  -- no two drew one number
+  -- no two drew one number, and one drew each number past the first point's, up to the counter
   pub unlike : (name : EngineName) → Alone (Drew name) ts
+  pub drawn : (name : EngineName) (n : ℕ) → number_at name first < n → n ≤ counter name c.regs → Drawer name ts n
 
 -- An engine is opened at a number that its counter has reached, and the storage engine by a transaction that has the memory engine open at
 -- one that makes a pair.

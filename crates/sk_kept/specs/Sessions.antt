@@ -1,5 +1,5 @@
 -- The sessions of a run with the calls of their transactions, over whatever desk answers them.
-use Rattle.std.specs.Prelude.{◌≡◌, List, [], ◌∷◌, ◌++◌, Option, Some, None, map}
+use Rattle.std.specs.Prelude.{◌≡◌, List, ◌∷◌, ◌++◌, Option, Some, None, map}
 use Rattle.std.specs.List.{AllByRecursion}
 use Rattle.sk_rows.specs.declared.table.Table.{Table}
 use Rattle.sk_rows.specs.declared.statement.Statement.{Statement}
@@ -8,14 +8,13 @@ use Rattle.sk_model.specs.declared.reply.Reply.{Reply}
 use Rattle.sk_model.specs.Talks.{Talk}
 use Rattle.sk_commit.specs.declared.asking.Wish.{Wish}
 use Rattle.sk_commit.specs.declared.asking.Got.{Got}
-use Rattle.sk_session.specs.declared.turn.Turn.{Turn}
 use Rattle.sk_session.specs.declared.live.At.{At}
 use Rattle.sk_session.specs.declared.live.At.TheVariants as at
 use Rattle.sk_session.specs.declared.session.Session.{Session}
 use Rattle.sk_session.specs.Moving.{wished}
 use Rattle.sk_session.specs.EachTalk.{SessionTalks, IsBetween}
 use Rattle.sk_session.specs.Facts.{facts_in}
-use Rattle.sk_session.specs.Conversing.{Conversed}
+use Rattle.sk_session.specs.Conversing.{Conversed, HasLeft}
 use Rattle.sk_session.specs.Common.{Common, Answered}
 use Rattle.sk_kept.specs.Running.{Member, IsRunning}
 
@@ -56,3 +55,9 @@ abbrev pub LinesKeep : {D : Type 0} → (D → Wish → Got → D → Type 0) �
 LinesKeep {D} answers stands = AnswersRight answers stands → (catalog : List Table) (first : Point) (points : List Point) (c : Common) (before : List Player) (old : Session) (talks : List Talk) (after : List Player) (desk : D)
     (s : Option Statement) (new : Session) (desk_then : D) (said : Reply) → stands desk c → IsRun catalog first points c (before ++ record { session = old; talks = talks } ∷ after) → IsBetween old.at
     → Conversed answers catalog old desk s new desk_then said → GoesOn stands catalog first points c before new after desk_then × IsBetween new.at
+
+-- And so does leaving a session.
+abbrev pub LeavesKeep : {D : Type 0} → (D → Wish → Got → D → Type 0) → (D → Common → Type 0) → Type 0
+LeavesKeep {D} answers stands = AnswersRight answers stands → (catalog : List Table) (first : Point) (points : List Point) (c : Common) (before : List Player) (old : Session) (talks : List Talk) (after : List Player) (desk : D)
+    (new : Session) (desk_then : D) (said : Reply) → stands desk c → IsRun catalog first points c (before ++ record { session = old; talks = talks } ∷ after) → IsBetween old.at
+    → HasLeft answers catalog old desk new desk_then said → GoesOn stands catalog first points c before new after desk_then × IsBetween new.at
