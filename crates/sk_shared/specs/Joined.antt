@@ -19,6 +19,10 @@ recorded e from = cond (may e (call.Records from (horizon_of e))) (commits_betwe
 abbrev pub Records : {G : Type 0} → (G → EngineTable → List Entry → Type 0) → G → ℕ → List Commit → Type 0
 Records stands x from commits = (e : EngineTable) (js : List Entry) → stands x e js → commits ≡ recorded e from
 
+-- each number of such a table up to the counter is decided
+abbrev pub DecidesTo : {G : Type 0} → (G → EngineTable → List Entry → Type 0) → G → ℕ → Type 0
+DecidesTo stands x counter = (e : EngineTable) (js : List Entry) → stands x e js → horizon_of e ≡ counter
+
 -- a point's number of an engine
 abbrev pub number_at : EngineName → Point → ℕ
 number_at Mem q = q.a

@@ -2,7 +2,7 @@
 
 ghost use Rattle.std.specs.Prelude.{◌≡◌, ◌≤◌, IfOk};
 ghost use Rattle.sk_commit.specs.declared.asking.RegistryCall.TheVariants as call;
-ghost use Rattle.sk_weave.specs.Registry.{regs_at};
+ghost use Rattle.sk_weave.specs.Registry.{Regs, regs_at};
 ghost use Rattle.sk_weave.specs.RegistryLaws.{CanStart};
 ghost use Rattle.sk_shared.specs.Logged.{Logs, Told};
 
@@ -51,12 +51,15 @@ impl PointLog {
         Ok(PointLog { points, all })
     }
 
-    /// All points of the run.
-    pub fn into_points(self) -> PointList
-        ensures { result ≡ self.all }
+    /// Both counters, and all points of the run.
+    pub fn into_parts(self) -> (u32, u32, PointList)
+        ensures counters { (r : Regs) → Logs self r → (result.0 ≡ r.mem) × (result.1 ≡ r.store) }
+        ensures points { result.2 ≡ self.all }
     {
-        let PointLog { points: _, all } = self;
-        List::from_vec(all)
+        let PointLog { mut points, all } = self;
+        let mem = points.begin();
+        let store = points.store_now();
+        (mem, store, List::from_vec(all))
     }
 
     /// Takes room for the next two points.

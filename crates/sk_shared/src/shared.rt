@@ -55,12 +55,15 @@ impl Shared {
         let (mem, store) = engines.into_parts();
         let (mem, mem_journal) = mem.into_parts();
         let (store, store_journal) = store.into_parts();
+        let (mem_counter, store_counter, points) = log.into_parts();
         Finished {
             mem,
             mem_journal,
+            mem_counter,
             store,
             store_journal,
-            points: log.into_points(),
+            store_counter,
+            points,
         }
     }
 
