@@ -12,10 +12,11 @@ use Rattle.sk_parse.specs.Places.{IsFirstFault, IsRefused, words}
 use Rattle.sk_parse.specs.Saying.{Says}
 use Rattle.sk_parse.specs.Statements.{answer as answered_by, place_of, statement, whole}
 use Rattle.sk_parse.proofs.Answered.{answered}
-use Rattle.sk_script.specs.Body.{alone, behind_session, body, by_session, closed, is_mark, misfit, said, says, session_of}
-use Rattle.sk_script.specs.Faults.{BodyFault, IsNoMark}
+use Rattle.sk_script.specs.declared.script.Line.TheVariants as line
+use Rattle.sk_script.specs.Body.{alone, behind_session, body, by_session, closed, is_mark, is_step, misfit, phrase, rest_of, said, says, session_of}
+use Rattle.sk_script.specs.Faults.{BodyFault, IsNoMark, SaidFault}
 use Rattle.sk_script.proofs.BodyFaults.{FailsAt}
-use Rattle.sk_script.proofs.BodyRules.{mark_word, open_tokens, said_closed, said_plain, statement_read}
+use Rattle.sk_script.proofs.BodyRules.{mark_word, phrase_open, phrase_read, said_closed, said_plain}
 use Rattle.sk_script.proofs.NoSemicolon.{goes}
 
 -- ---- statements
@@ -84,31 +85,39 @@ first_is ts end place f = by (statement ts end) refl
         ap (λ p. Err (parse.Unexpected p)) (on place2 g (two_cuts f.0 f.1 g.0 g.1 (sym f.2 ∙ g.2)))
     by (Err parse.NoMemory) is = absurd (no_memory ts end (whole (words ts)) is)
 
+-- ---- what a session says
+
+phrase_fails : (n end : ℕ) (ts : List Token) (place : ℕ) → SaidFault end ts place → FailsAt (phrase n ts end) place
+unfolding phrase
+phrase_fails n end _ _ (SaidFault.step t v ts at) = ap (λ w. cond (is_step w) (alone (Ok (line.Step n)) (v ∷ ts)) (says n (statement (t ∷ v ∷ ts) end))) at
+phrase_fails n end _ _ (SaidFault.statement ts place none f) =
+    ap (λ b. cond b (alone (Ok (line.Step n)) (rest_of ts)) (says n (statement ts end))) none ∙ ap (says n) (first_is ts end place f)
+
 -- ---- lines of a session
 
 colon_missing : (n : ℕ) (ts : List Token) (end : ℕ) → IsNoMark 58 ts → FailsAt (behind_session n ts end) (place_of end ts)
 colon_missing n [] end none = refl
 colon_missing n (c ∷ ts) end none = by (is_mark 58 c.word) refl
   where
-    by : (b : Bool) → is_mark 58 c.word ≡ b → FailsAt (cond b (says n (said ts end)) (misfit (c ∷ ts) end)) (c.from + 1)
+    by : (b : Bool) → is_mark 58 c.word ≡ b → FailsAt (cond b (said n ts end) (misfit (c ∷ ts) end)) (c.from + 1)
     by true is = absurd (none (mark_word 58 c.word is))
     by false is = refl
 
-behind_colon : (t c : Token) (ts : List Token) (n end place : ℕ) → session_of t.word ≡ Some n → c.word ≡ word.Mark 58 0 → FailsAt (said ts end) place → FailsAt (body (t ∷ c ∷ ts) end) place
+behind_colon : (t c : Token) (ts : List Token) (n end place : ℕ) → session_of t.word ≡ Some n → c.word ≡ word.Mark 58 0 → FailsAt (said n ts end) place → FailsAt (body (t ∷ c ∷ ts) end) place
 unfolding body
 behind_colon t c ts n end place session colon is =
     ap (λ o. by_session o t (c ∷ ts) end) session
-    ∙ ap (λ w. cond (is_mark 58 w) (says n (said ts end)) (misfit (c ∷ ts) end)) colon
-    ∙ ap (says n) is
+    ∙ ap (λ w. cond (is_mark 58 w) (said n ts end) (misfit (c ∷ ts) end)) colon
+    ∙ is
 
 pub body_fails : (end : ℕ) (ts : List Token) (place : ℕ) → BodyFault end ts place → FailsAt (body ts end) place
 unfolding body closed
 body_fails end _ _ (BodyFault.session [] none) = refl
 body_fails end _ _ (BodyFault.session (t ∷ ts) none) = ap (λ o. by_session o t ts end) none
 body_fails end _ _ (BodyFault.colon t ts n session none) = ap (λ o. by_session o t ts end) session ∙ colon_missing n ts end none
-body_fails end _ _ (BodyFault.plain t c ts n place session colon all f) = behind_colon t c ts n end place session colon (said_plain ts end all ∙ first_is ts end place f)
+body_fails end _ _ (BodyFault.plain t c ts n place session colon all f) = behind_colon t c ts n end place session colon (said_plain n ts end all ∙ phrase_fails n end ts place f)
 body_fails end _ _ (BodyFault.closed t c us m ts n place session colon all mark f) =
-    behind_colon t c (us ++ m ∷ ts) n end place session colon (said_closed us m ts end all (ap goes mark) ∙ ap (λ r. alone r ts) (first_is us m.from place f))
-body_fails end _ _ (BodyFault.behind t c us m v ts n s session colon mark is) =
+    behind_colon t c (us ++ m ∷ ts) n end place session colon (said_closed n us m ts end all (ap goes mark) ∙ ap (λ r. alone r ts) (phrase_fails n m.from us place f))
+body_fails end _ _ (BodyFault.behind t c us m v ts n what session colon mark is) =
     behind_colon t c (us ++ m ∷ v ∷ ts) n end (v.from + 1) session colon
-    (said_closed us m (v ∷ ts) end (open_tokens us (words us) s refl is) (ap goes mark) ∙ ap (λ r. alone r (v ∷ ts)) (statement_read us m.from (words us) s refl is))
+    (said_closed n us m (v ∷ ts) end (phrase_open n us (words us) what refl is) (ap goes mark) ∙ ap (λ r. alone r (v ∷ ts)) (phrase_read n us m.from (words us) what refl is))

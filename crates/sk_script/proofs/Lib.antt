@@ -2,10 +2,12 @@
 pub mod Cuts
 pub mod Rising
 pub mod Turns
--- the tables of a script are such as a catalog takes
+-- the tables of a script are such as a catalog takes, and its options such as may be set
 pub mod Parts
 pub mod Columns
 pub mod NewTables
+pub mod Choices
+pub mod OptionRules
 pub mod Takings
 -- what the rules make of words, of a line and of bytes is what is read, both ways
 pub mod TableRules
@@ -13,8 +15,11 @@ pub mod NoSemicolon
 pub mod BodyRules
 pub mod LineRules
 pub mod ScriptRules
+-- the sessions and the texts of the lines
+pub mod Saying
 -- the fault that is answered is the first by the rules
 pub mod TableFaults
+pub mod OptionFaults
 pub mod BodyFaults
 pub mod LineFaults
 pub mod ScriptFaults

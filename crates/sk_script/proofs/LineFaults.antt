@@ -12,19 +12,25 @@ use Rattle.sk_parse.specs.Input.{Outcome, next}
 use Rattle.sk_parse.specs.Places.{words}
 use Rattle.sk_parse.specs.Statements.{place_of}
 use Rattle.sk_script.specs.declared.legible.Legible.{Legible}
+use Rattle.sk_script.specs.declared.line.Kind.{Kind}
+use Rattle.sk_script.specs.declared.line.Kind.TheVariants as kind
 use Rattle.sk_script.specs.declared.script.Line.{Line}
+use Rattle.sk_script.specs.declared.script.OptionLine.{OptionLine}
 use Rattle.sk_script.specs.declared.script.Script.{Script}
 use Rattle.sk_script.specs.declared.script.ScriptLine.{ScriptLine}
 use Rattle.sk_script.specs.declared.script.TableLine.{TableLine}
-use Rattle.sk_script.specs.Body.{body}
-use Rattle.sk_script.specs.Faults.{LineFault, TableFault, rest_of}
+use Rattle.sk_script.specs.Body.{body, rest_of}
+use Rattle.sk_script.specs.Faults.{LineFault, TableFault}
 use Rattle.sk_script.specs.Header.{answer, place, table, table_line}
 use Rattle.sk_script.specs.Legible.{legible}
-use Rattle.sk_script.specs.Script.{and_then, behind, good_len, is_header, is_passed_over, line_added, passed, table_added, with_body, with_front, with_line, with_table}
+use Rattle.sk_script.specs.Options.{option_line}
+use Rattle.sk_script.specs.Script.{and_then, behind, by_kind, good_len, is_passed_over, kind_of, line_added, option_added, passed, table_added, with_body, with_front, with_line, with_option, with_table}
 use Rattle.sk_script.proofs.BodyFaults.{FailsAt, body_fault, place_or}
 use Rattle.sk_script.proofs.BodyRules.{body_words}
-use Rattle.sk_script.proofs.LineRules.{header_words, table_of}
+use Rattle.sk_script.proofs.LineRules.{set_begins, set_of, table_begins, table_of}
 use Rattle.sk_script.proofs.NewTables.{line_taken}
+use Rattle.sk_script.proofs.OptionFaults.{option_fault}
+use Rattle.sk_script.proofs.OptionRules.{option_words}
 use Rattle.sk_script.proofs.TableFaults.{length_words, table_fault}
 
 pub place_is : (end : ℕ) (us vs ts : List Token) → ts ≡ us ++ vs → place ts end (length (words vs)) ≡ place_of end vs
@@ -33,7 +39,7 @@ place_is end us vs ts split =
     let before : length ts - length (words vs) ≡ length us = omega (arith, ap length split, length-append us vs, length_words vs) in
     ap (λ k. place_of end (drop k ts)) before ∙ ap (λ l. place_of end (drop (length us) l)) split ∙ ap (place_of end) (drop-append_seam us vs)
 
-pub begins_some : (lines : List ScriptLine) (ts : List Token) → is_header lines ts ≡ true → (t : Token) × (ts ≡ t ∷ rest_of ts)
+pub begins_some : (lines : List ScriptLine) (ts : List Token) → kind_of lines ts ≡ kind.Table → (t : Token) × (ts ≡ t ∷ rest_of ts)
 begins_some [] (t ∷ ts) is = (t, refl)
 begins_some [] [] is = absurd cc
 begins_some (l ∷ ls) ts is = absurd cc
@@ -42,7 +48,7 @@ answer_err : {A : Type 0} (ts : List Token) (end : ℕ) (o : Outcome A) (at : �
 answer_err ts end (Ok p) at is = absurd cc
 answer_err ts end (Err k) at is = (k, refl, ap (place_or 0) is)
 
-table_line_fault : (lines : List ScriptLine) (tables : List TableLine) (ts : List Token) (end at : ℕ) → is_header lines ts ≡ true → FailsAt (table_line tables ts end) at → TableFault tables end (rest_of ts) at
+table_line_fault : (lines : List ScriptLine) (tables : List TableLine) (ts : List Token) (end at : ℕ) → kind_of lines ts ≡ kind.Table → FailsAt (table_line tables ts end) at → TableFault tables end (rest_of ts) at
 unfolding table_line
 table_line_fault lines tables ts end at header is =
     let some = begins_some lines ts header in
@@ -72,7 +78,7 @@ passed_fault script long line at empty is = by (long || nat_lt (good_len line) (
     by true bad e = subst (LineFault script long line) (ap (place_or 0) e) (LineFault.passed empty (why (or_cases long (nat_lt (good_len line) (length line)) bad)))
     by false bad e = absurd cc
 
-table_front : (script : Script) (long : Bool) (n : ℕ) (line : Text) (at : ℕ) → is_passed_over line ≡ false → is_header script.lines (legible long line).tokens ≡ true
+table_front : (script : Script) (long : Bool) (n : ℕ) (line : Text) (at : ℕ) → is_passed_over line ≡ false → kind_of script.lines (legible long line).tokens ≡ kind.Table
     → FailsAt (with_table script n (legible long line)) at → LineFault script long line at
 unfolding with_table
 table_front script long n line at some header is = by (table_line script.tables (legible long line).tokens (legible long line).end) refl is
@@ -81,7 +87,7 @@ table_front script long n line at some header is = by (table_line script.tables 
         → FailsAt (and_then r (λ t. and_then (behind (legible long line)) (λ _. Ok (table_added script n t)))) at → LineFault script long line at
     by (Ok t) made e =
         let spoilt = behind_err (legible long line) at (table_added script n t) e in
-        let begins = header_words script.lines (legible long line).tokens header in
+        let begins = table_begins script.lines (legible long line).tokens header in
         subst (LineFault script long line) spoilt.1
         (LineFault.spoilt_table t some begins.first (table_of script (legible long line).end (legible long line).tokens t begins made)
         (line_taken script.tables (legible long line).tokens (legible long line).end t made) spoilt.0)
@@ -89,7 +95,24 @@ table_front script long n line at some header is = by (table_line script.tables 
         let same : Err f ≡ Err (parse.Unexpected at) = cc in
         LineFault.table at some header (table_line_fault script.lines script.tables (legible long line).tokens (legible long line).end at header (made ∙ same))
 
-body_front : (script : Script) (long : Bool) (n : ℕ) (line : Text) (at : ℕ) → is_passed_over line ≡ false → is_header script.lines (legible long line).tokens ≡ false
+option_front : (script : Script) (long : Bool) (n : ℕ) (line : Text) (at : ℕ) → is_passed_over line ≡ false → kind_of script.lines (legible long line).tokens ≡ kind.Option
+    → FailsAt (with_option script n (legible long line)) at → LineFault script long line at
+unfolding with_option
+option_front script long n line at some header is = by (option_line script.options n (rest_of (legible long line).tokens) (legible long line).end) refl is
+  where
+    by : (r : Result OptionLine ParseFault) → option_line script.options n (rest_of (legible long line).tokens) (legible long line).end ≡ r
+        → FailsAt (and_then r (λ o. and_then (behind (legible long line)) (λ _. Ok (option_added script o)))) at → LineFault script long line at
+    by (Ok o) made e =
+        let spoilt = behind_err (legible long line) at (option_added script o) e in
+        let begins = set_begins script.lines (legible long line).tokens header in
+        let setting = option_words script.options n (rest_of (legible long line).tokens) (legible long line).end o made in
+        subst (LineFault script long line) spoilt.1
+        (LineFault.spoilt_option setting.name setting.k some begins.first (set_of script.lines script.options n (legible long line).tokens o begins setting) setting.may spoilt.0)
+    by (Err f) made e =
+        let same : Err f ≡ Err (parse.Unexpected at) = cc in
+        LineFault.option at some header (option_fault script.options n (rest_of (legible long line).tokens) (legible long line).end at (made ∙ same))
+
+body_front : (script : Script) (long : Bool) (n : ℕ) (line : Text) (at : ℕ) → is_passed_over line ≡ false → kind_of script.lines (legible long line).tokens ≡ kind.Body
     → FailsAt (with_body script n (legible long line)) at → LineFault script long line at
 unfolding with_body
 body_front script long n line at some header is = by (body (legible long line).tokens (legible long line).end) refl is
@@ -107,11 +130,11 @@ pub line_fault : (script : Script) (long : Bool) (n : ℕ) (line : Text) (at : �
 unfolding with_line
 line_fault script long n line at is = by (is_passed_over line) refl is
   where
-    on : is_passed_over line ≡ false → (header : Bool) → is_header script.lines (legible long line).tokens ≡ header
-        → FailsAt (cond header (with_table script n (legible long line)) (with_body script n (legible long line))) at → LineFault script long line at
-    on some true header e = table_front script long n line at some header e
-    on some false header e = body_front script long n line at some header e
+    on : is_passed_over line ≡ false → (k : Kind) → kind_of script.lines (legible long line).tokens ≡ k → FailsAt (by_kind k script n (legible long line)) at → LineFault script long line at
+    on some kind.Table header e = table_front script long n line at some header e
+    on some kind.Option header e = option_front script long n line at some header e
+    on some kind.Body header e = body_front script long n line at some header e
 
     by : (b : Bool) → is_passed_over line ≡ b → FailsAt (cond b (passed long script line) (with_front script n (legible long line))) at → LineFault script long line at
     by true empty e = passed_fault script long line at empty e
-    by false some e = on some (is_header script.lines (legible long line).tokens) refl e
+    by false some e = on some (kind_of script.lines (legible long line).tokens) refl e

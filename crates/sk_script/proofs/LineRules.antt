@@ -22,16 +22,21 @@ use Rattle.sk_parse.specs.declared.fault.ParseFault.TheVariants as parse
 use Rattle.sk_parse.specs.Input.{next}
 use Rattle.sk_parse.specs.Places.{words}
 use Rattle.sk_script.specs.declared.legible.Legible.{Legible}
+use Rattle.sk_script.specs.declared.line.Kind.{Kind}
+use Rattle.sk_script.specs.declared.line.Kind.TheVariants as kind
 use Rattle.sk_script.specs.declared.script.Line.{Line}
+use Rattle.sk_script.specs.declared.script.OptionLine.{OptionLine}
 use Rattle.sk_script.specs.declared.script.Script.{Script}
 use Rattle.sk_script.specs.declared.script.ScriptLine.{ScriptLine}
-use Rattle.sk_script.specs.Body.{body}
+use Rattle.sk_script.specs.Body.{body, rest_of}
 use Rattle.sk_script.specs.Header.{answer, table, table_line}
 use Rattle.sk_script.specs.Legible.{capped, front_by, legible}
-use Rattle.sk_script.specs.Rules.{HasWords, IsBody, IsPassed, IsTable}
-use Rattle.sk_script.specs.Script.{and_then, behind, good_len, is_header, is_passed_over, is_table, line_added, passed, table_added, with_body, with_front, with_line, with_table}
+use Rattle.sk_script.specs.Options.{MaySet, option_line}
+use Rattle.sk_script.specs.Rules.{HasWords, IsBody, IsPassed, IsSet, IsTable}
+use Rattle.sk_script.specs.Script.{and_then, behind, by_kind, good_len, is_passed_over, kind_by, kind_of, line_added, option_added, passed, table_added, with_body, with_front, with_line, with_option, with_table}
 use Rattle.sk_script.proofs.BodyRules.{body_read, body_words}
 use Rattle.sk_script.proofs.NewTables.{answered, line_taken}
+use Rattle.sk_script.proofs.OptionRules.{IsSetting, option_read, option_words, set_to}
 use Rattle.sk_script.proofs.TableRules.{table_read, table_words}
 use Rattle.sk_script.proofs.Takings.{then_parts}
 
@@ -39,6 +44,7 @@ use Rattle.sk_script.proofs.Takings.{then_parts}
 pub data Adds (script : Script) (n : ℕ) (line : Text) : Script → Type 0 where
   over : IsPassed line → Adds script n line script
   makes : (ws : List Word) (t : Table) → script.lines ≡ [] → HasWords line ws → IsTable ws t → add_fault (map (λ l. l.table) script.tables) t ≡ None → Adds script n line (table_added script n t)
+  sets : (ws : List Word) (name : Text) (k : ℕ) → script.lines ≡ [] → HasWords line ws → IsSet ws name k → MaySet script.options name k → Adds script n line (option_added script (set_to n name k))
   speaks : (ws : List Word) (what : Line) → HasWords line ws → IsBody ws what → Adds script n line (line_added script n what)
 
 -- ---- lines that are passed over
@@ -172,20 +178,30 @@ behind_ok front u is = by front.spoilt refl is
     by true at e = absurd cc
     by false at e = refl
 
-table_key : (w : Word) → is_table w ≡ true → w ≡ word.Key key.Table
+table_key : (w : Word) → kind_by w ≡ kind.Table → w ≡ word.Key key.Table
 table_key (word.Key key.Table) is = refl
 table_key _ is = absurd cc
 
-pub record BeginsTable (lines : List ScriptLine) (ts : List Token) : Type 0 where
+set_key : (w : Word) → kind_by w ≡ kind.Option → w ≡ word.Key key.Set
+set_key (word.Key key.Set) is = refl
+set_key _ is = absurd cc
+
+-- no line of a session stands before these tokens, of which this is the first word
+pub record Begins (lines : List ScriptLine) (ts : List Token) (w : Word) : Type 0 where
   pub first : lines ≡ []
-  pub begins : words ts ≡ word.Key key.Table ∷ next (words ts)
+  pub begins : words ts ≡ w ∷ next (words ts)
 
-pub header_words : (lines : List ScriptLine) (ts : List Token) → is_header lines ts ≡ true → BeginsTable lines ts
-header_words [] (t ∷ ts) is = record { first = refl; begins = ap (λ w. w ∷ words ts) (table_key t.word is) }
-header_words [] [] is = absurd cc
-header_words (l ∷ ls) ts is = absurd cc
+pub table_begins : (lines : List ScriptLine) (ts : List Token) → kind_of lines ts ≡ kind.Table → Begins lines ts (word.Key key.Table)
+table_begins [] (t ∷ ts) is = record { first = refl; begins = ap (λ w. w ∷ words ts) (table_key t.word is) }
+table_begins [] [] is = absurd cc
+table_begins (l ∷ ls) ts is = absurd cc
 
-pub table_of : (script : Script) (end : ℕ) (ts : List Token) (t : Table) → BeginsTable script.lines ts → table_line script.tables ts end ≡ Ok t → IsTable (words ts) t
+pub set_begins : (lines : List ScriptLine) (ts : List Token) → kind_of lines ts ≡ kind.Option → Begins lines ts (word.Key key.Set)
+set_begins [] (t ∷ ts) is = record { first = refl; begins = ap (λ w. w ∷ words ts) (set_key t.word is) }
+set_begins [] [] is = absurd cc
+set_begins (l ∷ ls) ts is = absurd cc
+
+pub table_of : (script : Script) (end : ℕ) (ts : List Token) (t : Table) → Begins script.lines ts (word.Key key.Table) → table_line script.tables ts end ≡ Ok t → IsTable (words ts) t
 unfolding table_line
 table_of script end ts t header is =
     let found = answered ts end (table script.tables (next (words ts))) t is in
@@ -193,24 +209,43 @@ table_of script end ts t header is =
     let made = table_words script.tables (next (words ts)) found.0.1 t same in
     (made.0, header.begins ∙ ap (λ l. word.Key key.Table ∷ l) made.1, made.2)
 
+rest_words : (ts : List Token) → words (rest_of ts) ≡ next (words ts)
+rest_words [] = refl
+rest_words (t ∷ ts) = refl
+
+pub set_of : (lines : List ScriptLine) (options : List OptionLine) (n : ℕ) (ts : List Token) (o : OptionLine) → Begins lines ts (word.Key key.Set) → (is : IsSetting options n (rest_of ts) o) → IsSet (words ts) is.name is.k
+set_of lines options n ts o begins is = begins.begins ∙ ap (λ l. word.Key key.Set ∷ l) (sym (rest_words ts) ∙ is.words)
+
 -- ---- both ways
 
-front_words : (header : Bool) (script : Script) (n : ℕ) (line : Text) (after : Script) → is_header script.lines (legible false line).tokens ≡ header
-    → cond header (with_table script n (legible false line)) (with_body script n (legible false line)) ≡ Ok after → Adds script n line after
-unfolding with_table with_body
-front_words true script n line after header e =
+front_words : (k : Kind) (script : Script) (n : ℕ) (line : Text) (after : Script) → kind_of script.lines (legible false line).tokens ≡ k → by_kind k script n (legible false line) ≡ Ok after → Adds script n line after
+unfolding with_table with_option with_body
+front_words kind.Table script n line after header e =
     let front = legible false line in
     let t = then_parts (table_line script.tables front.tokens front.end) (λ t. and_then (behind front) (λ _. Ok (table_added script n t))) after e in
     let rest = then_parts (behind front) (λ (_ : Unit {0}). Ok (table_added script n t.0)) after t.2 in
     let whole = unspoilt line (behind_ok front rest.0 rest.1) in
     let same : table_added script n t.0 ≡ after = cc rest.2 in
     let is = legible_plain line whole.found whole.short whole.cut in
-    let begins = header_words script.lines whole.found (ap (λ (f : Legible). is_header script.lines f.tokens) (sym is) ∙ header) in
+    let begins = table_begins script.lines whole.found (ap (λ (f : Legible). kind_of script.lines f.tokens) (sym is) ∙ header) in
     let made = ap (λ (f : Legible). table_line script.tables f.tokens f.end) (sym is) ∙ t.1 in
     let has : HasWords line (words whole.found) = record { short = whole.short; printable = tokens_printable line whole.found whole.cut; found = whole.found; cut = whole.cut; words = refl } in
     subst (Adds script n line) same
     (Adds.makes (words whole.found) t.0 begins.first has (table_of script (length line) whole.found t.0 begins made) (line_taken script.tables whole.found (length line) t.0 made))
-front_words false script n line after header e =
+front_words kind.Option script n line after header e =
+    let front = legible false line in
+    let o = then_parts (option_line script.options n (rest_of front.tokens) front.end) (λ o. and_then (behind front) (λ _. Ok (option_added script o))) after e in
+    let rest = then_parts (behind front) (λ (_ : Unit {0}). Ok (option_added script o.0)) after o.2 in
+    let whole = unspoilt line (behind_ok front rest.0 rest.1) in
+    let same : option_added script o.0 ≡ after = cc rest.2 in
+    let is = legible_plain line whole.found whole.short whole.cut in
+    let begins = set_begins script.lines whole.found (ap (λ (f : Legible). kind_of script.lines f.tokens) (sym is) ∙ header) in
+    let made = ap (λ (f : Legible). option_line script.options n (rest_of f.tokens) f.end) (sym is) ∙ o.1 in
+    let has : HasWords line (words whole.found) = record { short = whole.short; printable = tokens_printable line whole.found whole.cut; found = whole.found; cut = whole.cut; words = refl } in
+    let setting = option_words script.options n (rest_of whole.found) (length line) o.0 made in
+    subst (Adds script n line) (ap (option_added script) setting.is ∙ same)
+    (Adds.sets (words whole.found) setting.name setting.k begins.first has (set_of script.lines script.options n whole.found o.0 begins setting) setting.may)
+front_words kind.Body script n line after header e =
     let front = legible false line in
     let what = then_parts (body front.tokens front.end) (λ what. and_then (behind front) (λ _. Ok (line_added script n what))) after e in
     let rest = then_parts (behind front) (λ (_ : Unit {0}). Ok (line_added script n what.0)) after what.2 in
@@ -227,7 +262,7 @@ line_adds script n line after is = by (is_passed_over line) refl is
   where
     by : (b : Bool) → is_passed_over line ≡ b → cond b (passed false script line) (with_front script n (legible false line)) ≡ Ok after → Adds script n line after
     by true empty e = passed_words script n line after empty e
-    by false empty e = front_words (is_header script.lines (legible false line).tokens) script n line after refl e
+    by false empty e = front_words (kind_of script.lines (legible false line).tokens) script n line after refl e
 
 with_words : (script : Script) (n : ℕ) (line : Text) (w : Word) (ws : List Word) → (has : HasWords line (w ∷ ws)) → with_line false script n line ≡ with_front script n (plain has.found line)
 unfolding with_line
@@ -235,15 +270,15 @@ with_words script n line w ws has =
     ap (λ b. cond b (passed false script line) (with_front script n (legible false line))) (not_passed line has.found w ws has.cut has.words)
     ∙ ap (with_front script n) (legible_plain line has.found has.short has.cut)
 
-pub header_is : (lines : List ScriptLine) (ts : List Token) (ws : List Word) → lines ≡ [] → words ts ≡ word.Key key.Table ∷ ws → is_header lines ts ≡ true
-header_is [] (t ∷ ts) ws none is = let head : t.word ≡ word.Key key.Table = cc in ap is_table head
-header_is [] [] ws none is = absurd cc
-header_is (l ∷ ls) ts ws none is = absurd cc
+pub kind_is : (lines : List ScriptLine) (ts : List Token) (w : Word) (ws : List Word) → lines ≡ [] → words ts ≡ w ∷ ws → kind_of lines ts ≡ kind_by w
+kind_is [] (t ∷ ts) w ws none is = let head : t.word ≡ w = cc in ap kind_by head
+kind_is [] [] w ws none is = absurd cc
+kind_is (l ∷ ls) ts w ws none is = absurd cc
 
-pub no_header : (lines : List ScriptLine) (ts : List Token) (n : ℕ) (ws : List Word) → words ts ≡ word.Number n ∷ ws → is_header lines ts ≡ false
-no_header [] (t ∷ ts) n ws is = let head : t.word ≡ word.Number n = cc in ap is_table head
-no_header [] [] n ws is = refl
-no_header (l ∷ ls) ts n ws is = refl
+pub is_body : (lines : List ScriptLine) (ts : List Token) (n : ℕ) (ws : List Word) → words ts ≡ word.Number n ∷ ws → kind_of lines ts ≡ kind.Body
+is_body [] (t ∷ ts) n ws is = let head : t.word ≡ word.Number n = cc in ap kind_by head
+is_body [] [] n ws is = refl
+is_body (l ∷ ls) ts n ws is = refl
 
 pub table_line_read : (script : Script) (ts : List Token) (end : ℕ) (ws : List Word) (t : Table) → words ts ≡ ws → IsTable ws t → add_fault (map (λ l. l.table) script.tables) t ≡ None
     → table_line script.tables ts end ≡ Ok t
@@ -252,25 +287,35 @@ table_line_read script ts end ws t is made taken =
     ap (λ l. answer ts end (table script.tables (next l))) (is ∙ made.1)
     ∙ ap (answer ts end) (table_read script.tables (next (word.Key key.Table ∷ word.Name t.name ∷ _ ∷ made.0)) t (made.0, refl, made.2) taken)
 
+pub set_line_read : (options : List OptionLine) (n : ℕ) (ts : List Token) (end : ℕ) (ws : List Word) (name : Text) (k : ℕ) → words ts ≡ ws → IsSet ws name k → MaySet options name k
+    → option_line options n (rest_of ts) end ≡ Ok (set_to n name k)
+set_line_read options n ts end ws name k is set may = option_read options n (rest_of ts) end name k (rest_words ts ∙ ap next (is ∙ set)) may
+
 pub line_read : (script : Script) (n : ℕ) (line : Text) (after : Script) → Adds script n line after → with_line false script n line ≡ Ok after
-unfolding with_line with_table with_body
+unfolding with_line with_table with_option with_body
 line_read script n line _ (Adds.over is) =
     ap (λ b. cond b (passed false script line) (with_front script n (legible false line))) is.empty ∙ passed_read script line is
 line_read script n line _ (Adds.makes ws t first has made taken) =
     let has_words : HasWords line (word.Key key.Table ∷ _ ∷ _ ∷ made.0) = subst (HasWords line) made.1 has in
     let front = plain has_words.found line in
     with_words script n line _ _ has_words
-    ∙ ap (λ b. cond b (with_table script n front) (with_body script n front)) (header_is script.lines has_words.found _ first has_words.words)
+    ∙ ap (λ k. by_kind k script n front) (kind_is script.lines has_words.found (word.Key key.Table) _ first has_words.words)
     ∙ ap (λ r. and_then r (λ t. and_then (behind front) (λ _. Ok (table_added script n t)))) (table_line_read script has_words.found (length line) _ t has_words.words (made.0, refl, made.2) taken)
+line_read script n line _ (Adds.sets ws name k first has set may) =
+    let has_words : HasWords line (word.Key key.Set ∷ word.Name name ∷ word.Number k ∷ []) = subst (HasWords line) set has in
+    let front = plain has_words.found line in
+    with_words script n line _ _ has_words
+    ∙ ap (λ k. by_kind k script n front) (kind_is script.lines has_words.found (word.Key key.Set) _ first has_words.words)
+    ∙ ap (λ r. and_then r (λ o. and_then (behind front) (λ _. Ok (option_added script o)))) (set_line_read script.options n has_words.found (length line) _ name k has_words.words refl may)
 line_read script n line _ (Adds.speaks ws what has made) = by ws what has made
   where
     on : (m : ℕ) (us : List Word) (what : Line) → HasWords line (word.Number m ∷ us) → IsBody (word.Number m ∷ us) what → with_line false script n line ≡ Ok (line_added script n what)
     on m us what has made =
         let front = plain has.found line in
         with_words script n line (word.Number m) us has
-        ∙ ap (λ b. cond b (with_table script n front) (with_body script n front)) (no_header script.lines has.found m us has.words)
+        ∙ ap (λ k. by_kind k script n front) (is_body script.lines has.found m us has.words)
         ∙ ap (λ r. and_then r (λ what. and_then (behind front) (λ _. Ok (line_added script n what)))) (body_read (word.Number m ∷ us) what made has.found (length line) has.words)
 
     by : (ws : List Word) (what : Line) → HasWords line ws → IsBody ws what → with_line false script n line ≡ Ok (line_added script n what)
-    by _ _ has (IsBody.plain m us s session says) = on m _ _ has (IsBody.plain m us s session says)
-    by _ _ has (IsBody.closed m us s session says) = on m _ _ has (IsBody.closed m us s session says)
+    by _ _ has (IsBody.plain m us what session says) = on m _ what has (IsBody.plain m us what session says)
+    by _ _ has (IsBody.closed m us what session says) = on m _ what has (IsBody.closed m us what session says)

@@ -13,6 +13,7 @@ use Rattle.sk_lex.specs.declared.token.Token.{Token}
 use Rattle.sk_lex.specs.declared.token.Word.TheVariants as word
 use Rattle.sk_lex.specs.Front.{Text}
 use Rattle.sk_lex.specs.Spans.{AreCut, IsPlaced, reach as before_fault}
+use Rattle.sk_script.specs.Body.{rest_of}
 use Rattle.sk_script.specs.Legible.{capped, is_long, open_from, reach, with_text}
 use Rattle.sk_script.specs.Lines.{IsLine}
 
@@ -31,6 +32,14 @@ line_behind k ts end l = subst (λ us. IsLine us end) (sym (take_rest ts k)) (re
   before = All-drop (λ t. t.from < end) k ts l.before;
   rising = pairs_drop k ts l.rising;
 })
+
+line_rest : (ts : List Token) (end : ℕ) → IsLine ts end → IsLine (rest_of ts) end
+line_rest [] end l = l
+line_rest (t ∷ ts) end l = record { short = l.short; before = All-tail (λ t. t.from < end) t ts l.before; rising = pairs_tail t ts l.rising }
+
+-- those behind the first
+pub rest_is_line : (us ts : List Token) (end : ℕ) → us ≡ rest_of ts → IsLine ts end → IsLine us end
+rest_is_line us ts end is l = subst (λ vs. IsLine vs end) (sym is) (line_rest ts end l)
 
 head_pairs : (t : Token) (ts : List Token) → AllPairs (λ t u. t.from < u.from) (t ∷ ts) → All (λ u. t.from < u.from) ts
 head_pairs t ts p = λ j d within. p 0 (suc j) d (omega arith) (omega arith)

@@ -3,6 +3,7 @@ use Rattle.std.proofs.Common.{◌≡◌, ℕ, ◌+◌, ◌<◌, Bool, true, fals
 use Rattle.std.specs.Prelude.{nat_lt, Ok, Err}
 use Rattle.std.proofs.Math.Bool.{or-true}
 use Rattle.std.proofs.lemmas.Bool.{lt-ltb}
+use Rattle.sk_lex.specs.declared.token.Keyword.TheVariants as key
 use Rattle.sk_lex.specs.declared.token.Token.{Token}
 use Rattle.sk_lex.specs.declared.token.Word.{Word}
 use Rattle.sk_lex.specs.declared.token.Word.TheVariants as word
@@ -11,27 +12,32 @@ use Rattle.sk_parse.specs.declared.fault.ParseFault.TheVariants as parse
 use Rattle.sk_parse.specs.Input.{next}
 use Rattle.sk_parse.specs.Places.{words}
 use Rattle.sk_script.specs.declared.legible.Legible.{Legible}
+use Rattle.sk_script.specs.declared.line.Kind.{Kind}
+use Rattle.sk_script.specs.declared.line.Kind.TheVariants as kind
 use Rattle.sk_script.specs.declared.script.Line.{Line}
 use Rattle.sk_script.specs.declared.script.Script.{Script}
 use Rattle.sk_script.specs.declared.script.ScriptFault.TheVariants as fault
-use Rattle.sk_script.specs.Faults.{IsFirstFaultAt, IsPlaced, LineFault, TableFault, is_cut, line_of, rest_of}
+use Rattle.sk_script.specs.Body.{rest_of}
+use Rattle.sk_script.specs.Faults.{IsFirstFaultAt, IsPlaced, LineFault, TableFault, is_cut, line_of}
 use Rattle.sk_script.specs.Header.{answer, table, table_line}
 use Rattle.sk_script.specs.Legible.{legible}
-use Rattle.sk_script.specs.Rules.{IsBody, Makes}
-use Rattle.sk_script.specs.Script.{and_then, behind, good_len, gone_on, is_header, is_passed_over, line_added, nothing, passed, read_from, script_of, table_added, with_body, with_front, with_last, with_line, with_table, without_return}
+use Rattle.sk_script.specs.Rules.{IsBody}
+use Rattle.sk_script.specs.Script.{and_then, behind, by_kind, good_len, gone_on, is_passed_over, kind_of, line_added, nothing, option_added, passed, read_from, script_of, table_added, with_body, with_front, with_last, with_line, with_option, with_table, without_return}
 use Rattle.sk_script.proofs.BodyFaults.{FailsAt}
 use Rattle.sk_script.proofs.BodyRules.{body_read}
 use Rattle.sk_script.proofs.BodyFails.{body_fails}
 use Rattle.sk_script.proofs.LineFaults.{begins_some, place_is}
-use Rattle.sk_script.proofs.LineRules.{header_is, no_header, table_line_read}
+use Rattle.sk_script.proofs.LineRules.{is_body, kind_is, set_line_read, table_line_read}
+use Rattle.sk_script.proofs.OptionFaults.{option_fails}
+use Rattle.sk_script.proofs.OptionRules.{set_to}
 use Rattle.sk_script.proofs.ScriptFaults.{first_fault}
-use Rattle.sk_script.proofs.ScriptRules.{bodies_run, headers_run, run}
+use Rattle.sk_script.proofs.ScriptRules.{makes_run, run}
 use Rattle.sk_script.proofs.TableFails.{table_fails}
 use Rattle.sk_script.proofs.Takings.{gone_parts}
 
 -- ---- one line
 
-table_line_fails : (script : Script) (ts : List Token) (end p : ℕ) → is_header script.lines ts ≡ true → TableFault script.tables end (rest_of ts) p → FailsAt (table_line script.tables ts end) p
+table_line_fails : (script : Script) (ts : List Token) (end p : ℕ) → kind_of script.lines ts ≡ kind.Table → TableFault script.tables end (rest_of ts) p → FailsAt (table_line script.tables ts end) p
 unfolding table_line
 table_line_fails script ts end p header f =
     let some = begins_some script.lines ts header in
@@ -48,43 +54,54 @@ by_some : (script : Script) (long : Bool) (n : ℕ) (line : Text) → is_passed_
 unfolding with_line
 by_some script long n line some = ap (λ b. cond b (passed long script line) (with_front script n (legible long line))) some
 
-by_header : (script : Script) (n : ℕ) (front : Legible) (b : Bool) → is_header script.lines front.tokens ≡ b → with_front script n front ≡ cond b (with_table script n front) (with_body script n front)
-by_header script n front b is = ap (λ b. cond b (with_table script n front) (with_body script n front)) is
+as_kind : (script : Script) (n : ℕ) (front : Legible) (k : Kind) → kind_of script.lines front.tokens ≡ k → with_front script n front ≡ by_kind k script n front
+as_kind script n front k is = ap (λ k. by_kind k script n front) is
 
 is_bad : (long : Bool) (line : Text) → (long ≡ true) ⊎ (good_len line < length line) → (long || nat_lt (good_len line) (length line)) ≡ true
 is_bad long line (inl is) = ap (λ b. b || nat_lt (good_len line) (length line)) is
 is_bad long line (inr is) = ap (λ b. long || b) (lt-ltb (good_len line) (length line) is) ∙ or-true long
 
 body_begins : (ws : List Word) (what : Line) → IsBody ws what → (m : ℕ) × (us : List Word) × (ws ≡ word.Number m ∷ us)
-body_begins _ _ (IsBody.plain m us s session says) = (m, _, refl)
-body_begins _ _ (IsBody.closed m us s session says) = (m, _, refl)
+body_begins _ _ (IsBody.plain m us what session says) = (m, _, refl)
+body_begins _ _ (IsBody.closed m us what session says) = (m, _, refl)
 
 line_fails : (script : Script) (long : Bool) (n : ℕ) (line : Text) (p : ℕ) → LineFault script long line p → FailsAt (with_line long script n line) p
-unfolding with_line with_table with_body passed
+unfolding with_line with_table with_option with_body passed
 line_fails script long n line _ (LineFault.passed empty bad) =
     ap (λ b. cond b (passed long script line) (with_front script n (legible long line))) empty
     ∙ ap (λ b. cond b (Err (parse.Unexpected (good_len line + 1))) (Ok script)) (is_bad long line bad)
 line_fails script long n line _ (LineFault.table p some header f) =
     let front = legible long line in
     by_some script long n line some
-    ∙ by_header script n front true header
+    ∙ as_kind script n front kind.Table header
     ∙ ap (λ r. and_then r (λ t. and_then (behind front) (λ _. Ok (table_added script n t)))) (table_line_fails script front.tokens front.end p header f)
+line_fails script long n line _ (LineFault.option p some header f) =
+    let front = legible long line in
+    by_some script long n line some
+    ∙ as_kind script n front kind.Option header
+    ∙ ap (λ r. and_then r (λ o. and_then (behind front) (λ _. Ok (option_added script o)))) (option_fails script.options n front.end (rest_of front.tokens) p f)
 line_fails script long n line _ (LineFault.body p some header f) =
     let front = legible long line in
     by_some script long n line some
-    ∙ by_header script n front false header
+    ∙ as_kind script n front kind.Body header
     ∙ ap (λ r. and_then r (λ what. and_then (behind front) (λ _. Ok (line_added script n what)))) (body_fails front.end front.tokens p f)
 line_fails script long n line _ (LineFault.spoilt_table t some first is taken spoilt) =
     let front = legible long line in
     by_some script long n line some
-    ∙ by_header script n front true (header_is script.lines front.tokens _ first is.1)
+    ∙ as_kind script n front kind.Table (kind_is script.lines front.tokens (word.Key key.Table) _ first is.1)
     ∙ ap (λ r. and_then r (λ t. and_then (behind front) (λ _. Ok (table_added script n t)))) (table_line_read script front.tokens front.end (words front.tokens) t refl is taken)
     ∙ spoilt_fails front (table_added script n t) spoilt
+line_fails script long n line _ (LineFault.spoilt_option name k some first is may spoilt) =
+    let front = legible long line in
+    by_some script long n line some
+    ∙ as_kind script n front kind.Option (kind_is script.lines front.tokens (word.Key key.Set) _ first is)
+    ∙ ap (λ r. and_then r (λ o. and_then (behind front) (λ _. Ok (option_added script o)))) (set_line_read script.options n front.tokens front.end (words front.tokens) name k refl is may)
+    ∙ spoilt_fails front (option_added script (set_to n name k)) spoilt
 line_fails script long n line _ (LineFault.spoilt_body what some is spoilt) =
     let front = legible long line in
     let begins = body_begins (words front.tokens) what is in
     by_some script long n line some
-    ∙ by_header script n front false (no_header script.lines front.tokens begins.0 begins.1 begins.2)
+    ∙ as_kind script n front kind.Body (is_body script.lines front.tokens begins.0 begins.1 begins.2)
     ∙ ap (λ r. and_then r (λ what. and_then (behind front) (λ _. Ok (line_added script n what)))) (body_read (words front.tokens) what is front.tokens front.end refl)
     ∙ spoilt_fails front (line_added script n what) spoilt
 
@@ -108,12 +125,6 @@ run_reads long (p ∷ ps) script m q qs after is =
     ∙ ap (λ r. gone_on m r (λ after. read_from long after (m + 1) (ps ++ q ∷ qs))) parts.1
     ∙ run_reads long ps parts.0 (m + 1) q qs after parts.2
     ∙ ap (λ k. read_from long after k (q ∷ qs)) further
-
-makes_run : (lines : List Text) (script : Script) → Makes lines script → run nothing 1 lines ≡ Ok script
-makes_run lines script made =
-    ap (run nothing 1) made.split
-    ∙ headers_run 1 made.headers script.tables made.tables [] made.bodies made.taken
-    ∙ bodies_run (1 + length made.headers) made.bodies script.lines made.said script.tables []
 
 empty_fits : (script : Script) (n p : ℕ) → ¬ FailsAt (with_line false script n []) p
 unfolding with_line passed

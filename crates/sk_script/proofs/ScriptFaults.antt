@@ -15,7 +15,7 @@ use Rattle.sk_script.proofs.BodyFaults.{FailsAt}
 use Rattle.sk_script.proofs.Cuts.{some_piece}
 use Rattle.sk_script.proofs.LineFaults.{line_fault}
 use Rattle.sk_script.proofs.ScriptRules.{run, run_makes, script_read, script_stands}
-use Rattle.sk_script.proofs.Takings.{AreTaken, gone_parts, taken_line}
+use Rattle.sk_script.proofs.Takings.{AreTaken, gone_parts, none_taken, taken_line}
 
 taken_run : (lines : List Text) (script : Script) (n : ℕ) (last : Script) → AreTaken script → run script n lines ≡ Ok last → AreTaken last
 taken_run [] script n last taken is = let same : script ≡ last = cc in subst AreTaken same taken
@@ -95,7 +95,7 @@ first_fault bytes n place is =
       cut = some.2 ∙ f.split;
       number = f.number;
       script = f.after;
-      made = run_makes (map without_return f.before) f.after f.runs (taken_run (map without_return f.before) nothing 1 f.after tt f.runs);
+      made = run_makes (map without_return f.before) f.after f.runs (taken_run (map without_return f.before) nothing 1 f.after none_taken f.runs);
       fault = line_fault f.after (is_cut long f.behind) f.at (line_of f.piece f.behind) place f.fails;
     }
 

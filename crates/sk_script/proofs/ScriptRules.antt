@@ -10,19 +10,24 @@ use Rattle.sk_rows.specs.declared.table.Table.{Table}
 use Rattle.sk_parse.specs.declared.fault.ParseFault.{ParseFault}
 use Rattle.sk_parse.specs.declared.fault.ParseFault.TheVariants as parse
 use Rattle.sk_script.specs.declared.legible.Legible.{Legible}
+use Rattle.sk_script.specs.declared.line.Kind.{Kind}
+use Rattle.sk_script.specs.declared.line.Kind.TheVariants as kind
+use Rattle.sk_script.specs.declared.script.OptionLine.{OptionLine}
 use Rattle.sk_script.specs.declared.script.Script.{Script}
 use Rattle.sk_script.specs.declared.script.ScriptFault.{ScriptFault}
 use Rattle.sk_script.specs.declared.script.ScriptLine.{ScriptLine}
 use Rattle.sk_script.specs.declared.script.TableLine.{TableLine}
-use Rattle.sk_script.specs.Body.{body}
+use Rattle.sk_script.specs.Body.{body, rest_of}
 use Rattle.sk_script.specs.Header.{table_line}
 use Rattle.sk_script.specs.Legible.{legible}
+use Rattle.sk_script.specs.Options.{CanSet, option_line}
 use Rattle.sk_script.specs.Rules.{AreBodies, AreHeaders, AreLines, IsAlone, IsGrammar, IsOpen, IsScript, Makes}
-use Rattle.sk_script.specs.Script.{and_then, behind, goes_on, gone_on, is_header, is_passed_over, line_added, nothing, onto, passed, pieces, read_from, script_of, table_added, with_body, with_front, with_last, with_line, with_table, without_return}
+use Rattle.sk_script.specs.Script.{and_then, behind, by_kind, goes_on, gone_on, is_passed_over, kind_of, line_added, nothing, onto, option_added, passed, pieces, read_from, script_of, table_added, with_body, with_front, with_last, with_line, with_option, with_table, without_return}
 use Rattle.sk_script.specs.Tables.{CanAdd}
 use Rattle.sk_script.proofs.Cuts.{one_line, some_piece}
 use Rattle.sk_script.proofs.LineRules.{Adds, line_adds, line_read}
-use Rattle.sk_script.proofs.Takings.{gone_parts, script_tables}
+use Rattle.sk_script.proofs.OptionRules.{set_to}
+use Rattle.sk_script.proofs.Takings.{AreTaken, gone_parts, script_taken}
 
 -- ---- lines
 
@@ -77,36 +82,41 @@ some_lines (b ∷ bytes) = by (b == 10) refl (some_lines bytes)
 -- ---- what is read stands by the rules
 
 abbrev Said : Script → ℕ → List Text → Script → Type 0
-Said script n lines last = (said : List ScriptLine) × AreBodies n lines said × (last.lines ≡ script.lines ++ said) × (last.tables ≡ script.tables)
+Said script n lines last = (said : List ScriptLine) × AreBodies n lines said × (last.lines ≡ script.lines ++ said) × (last.tables ≡ script.tables) × (last.options ≡ script.options)
 
 no_line : {A : Type 0} (xs : List A) (x : A) → ¬ (xs ++ x ∷ [] ≡ [])
 no_line [] x is = absurd cc
 no_line (y ∷ xs) x is = absurd cc
 
 run_bodies : (lines : List Text) (script : Script) (n : ℕ) (last : Script) → ¬ (script.lines ≡ []) → run script n lines ≡ Ok last → Said script n lines last
-run_bodies [] script n last some is = let same : script ≡ last = cc in ([], AreBodies.none n, ap (λ (s : Script). s.lines) (sym same) ∙ sym (append-nil script.lines), ap (λ (s : Script). s.tables) (sym same))
+run_bodies [] script n last some is =
+    let same : script ≡ last = cc in
+    ([], AreBodies.none n, ap (λ (s : Script). s.lines) (sym same) ∙ sym (append-nil script.lines), ap (λ (s : Script). s.tables) (sym same), ap (λ (s : Script). s.options) (sym same))
 run_bodies (line ∷ lines) script n last some is =
     let step = gone_parts n (with_line false script n line) (λ after. run after (n + 1) lines) last is in
     by step.0 (line_adds script n line step.0 step.1) step.2 (λ after. run_bodies lines after (n + 1) last)
   where
     by : (after : Script) → Adds script n line after → run after (n + 1) lines ≡ Ok last → ((next : Script) → ¬ (next.lines ≡ []) → run next (n + 1) lines ≡ Ok last → Said next (n + 1) lines last)
         → Said script n (line ∷ lines) last
-    by _ (Adds.over is) e ih = let rest = ih script some e in (rest.0, AreBodies.passed n line lines rest.0 is rest.1, rest.2, rest.3)
+    by _ (Adds.over is) e ih = let rest = ih script some e in (rest.0, AreBodies.passed n line lines rest.0 is rest.1, rest.2, rest.3, rest.4)
     by _ (Adds.makes ws t first has made taken) e ih = absurd (some first)
+    by _ (Adds.sets ws name k first has set may) e ih = absurd (some first)
     by _ (Adds.speaks ws what has made) e ih =
         let here : ScriptLine = record { line = n; what = what } in
         let rest = ih (line_added script n what) (no_line script.lines here) e in
-        (here ∷ rest.0, AreBodies.body n line lines rest.0 ws what has made rest.1, rest.2 ∙ append_assoc script.lines (here ∷ []) rest.0, rest.3)
+        (here ∷ rest.0, AreBodies.body n line lines rest.0 ws what has made rest.1, rest.2 ∙ append_assoc script.lines (here ∷ []) rest.0, rest.3, rest.4)
 
 record Runs (script : Script) (n : ℕ) (lines : List Text) (last : Script) : Type 0 where
   headers : List Text
   bodies : List Text
   tables : List TableLine
+  options : List OptionLine
   said : List ScriptLine
   split : lines ≡ headers ++ bodies
-  make : AreHeaders n headers tables
+  make : AreHeaders n headers tables options
   speak : AreBodies (n + length headers) bodies said
   all_tables : last.tables ≡ script.tables ++ tables
+  all_options : last.options ≡ script.options ++ options
   all_lines : last.lines ≡ said
 
 run_all : (lines : List Text) (script : Script) (n : ℕ) (last : Script) → script.lines ≡ [] → run script n lines ≡ Ok last → Runs script n lines last
@@ -116,11 +126,13 @@ run_all [] script n last first is =
       headers = [];
       bodies = [];
       tables = [];
+      options = [];
       said = [];
       split = refl;
       make = AreHeaders.none n;
       speak = AreBodies.none (n + 0);
       all_tables = ap (λ (s : Script). s.tables) (sym same) ∙ sym (append-nil script.tables);
+      all_options = ap (λ (s : Script). s.options) (sym same) ∙ sym (append-nil script.options);
       all_lines = ap (λ (s : Script). s.lines) (sym same) ∙ first;
     }
 run_all (line ∷ lines) script n last first is =
@@ -138,11 +150,13 @@ run_all (line ∷ lines) script n last first is =
           headers = line ∷ r.headers;
           bodies = r.bodies;
           tables = r.tables;
+          options = r.options;
           said = r.said;
           split = ap (λ l. line ∷ l) r.split;
-          make = AreHeaders.passed n line r.headers r.tables is r.make;
+          make = AreHeaders.passed n line r.headers r.tables r.options is r.make;
           speak = subst (λ k. AreBodies k r.bodies r.said) (further r.headers) r.speak;
           all_tables = r.all_tables;
+          all_options = r.all_options;
           all_lines = r.all_lines;
         }
     by _ (Adds.makes ws t _ has made taken) e ih =
@@ -152,11 +166,29 @@ run_all (line ∷ lines) script n last first is =
           headers = line ∷ r.headers;
           bodies = r.bodies;
           tables = here ∷ r.tables;
+          options = r.options;
           said = r.said;
           split = ap (λ l. line ∷ l) r.split;
-          make = AreHeaders.table n line r.headers r.tables ws t has made r.make;
+          make = AreHeaders.table n line r.headers r.tables r.options ws t has made r.make;
           speak = subst (λ k. AreBodies k r.bodies r.said) (further r.headers) r.speak;
           all_tables = r.all_tables ∙ append_assoc script.tables (here ∷ []) r.tables;
+          all_options = r.all_options;
+          all_lines = r.all_lines;
+        }
+    by _ (Adds.sets ws name k _ has set may) e ih =
+        let here : OptionLine = set_to n name k in
+        let r = ih (option_added script here) first e in
+        record {
+          headers = line ∷ r.headers;
+          bodies = r.bodies;
+          tables = r.tables;
+          options = here ∷ r.options;
+          said = r.said;
+          split = ap (λ l. line ∷ l) r.split;
+          make = AreHeaders.option n line r.headers r.tables r.options ws name k has set r.make;
+          speak = subst (λ k. AreBodies k r.bodies r.said) (further r.headers) r.speak;
+          all_tables = r.all_tables;
+          all_options = r.all_options ∙ append_assoc script.options (here ∷ []) r.options;
           all_lines = r.all_lines;
         }
     by _ (Adds.speaks ws what has made) e ih =
@@ -167,53 +199,69 @@ run_all (line ∷ lines) script n last first is =
           headers = [];
           bodies = line ∷ lines;
           tables = [];
+          options = [];
           said = here ∷ rest.0;
           split = refl;
           make = AreHeaders.none n;
           speak = subst (λ k. AreBodies k (line ∷ lines) (here ∷ rest.0)) start (AreBodies.body n line lines rest.0 ws what has made rest.1);
           all_tables = rest.3 ∙ sym (append-nil script.tables);
+          all_options = rest.4 ∙ sym (append-nil script.options);
           all_lines = rest.2 ∙ append_assoc script.lines (here ∷ []) rest.0 ∙ ap (λ l. l ++ here ∷ rest.0) first;
         }
 
 -- ---- what stands by the rules is read
 
-pub bodies_run : (n : ℕ) (lines : List Text) (said : List ScriptLine) → AreBodies n lines said → (ts : List TableLine) (before : List ScriptLine)
-    → run (record { tables = ts; lines = before }) n lines ≡ Ok (record { tables = ts; lines = before ++ said })
-bodies_run _ _ _ (AreBodies.none n) ts before = ap (λ l. Ok (record { tables = ts; lines = l })) (sym (append-nil before))
-bodies_run _ _ _ (AreBodies.passed n line lines said is more) ts before =
-    let script : Script = record { tables = ts; lines = before } in
-    ap (λ r. gone_on n r (λ after. run after (n + 1) lines)) (line_read script n line script (Adds.over is)) ∙ bodies_run (n + 1) lines said more ts before
-bodies_run _ _ _ (AreBodies.body n line lines said ws what has made more) ts before =
-    let script : Script = record { tables = ts; lines = before } in
+abbrev script_with : List TableLine → List OptionLine → List ScriptLine → Script
+script_with ts os ls = record { tables = ts; options = os; lines = ls }
+
+pub bodies_run : (n : ℕ) (lines : List Text) (said : List ScriptLine) → AreBodies n lines said → (ts : List TableLine) (os : List OptionLine) (before : List ScriptLine)
+    → run (script_with ts os before) n lines ≡ Ok (script_with ts os (before ++ said))
+bodies_run _ _ _ (AreBodies.none n) ts os before = ap (λ l. Ok (script_with ts os l)) (sym (append-nil before))
+bodies_run _ _ _ (AreBodies.passed n line lines said is more) ts os before =
+    let script : Script = script_with ts os before in
+    ap (λ r. gone_on n r (λ after. run after (n + 1) lines)) (line_read script n line script (Adds.over is)) ∙ bodies_run (n + 1) lines said more ts os before
+bodies_run _ _ _ (AreBodies.body n line lines said ws what has made more) ts os before =
+    let script : Script = script_with ts os before in
     let here : ScriptLine = record { line = n; what = what } in
     ap (λ r. gone_on n r (λ after. run after (n + 1) lines)) (line_read script n line (line_added script n what) (Adds.speaks ws what has made))
-    ∙ bodies_run (n + 1) lines said more ts (before ++ here ∷ [])
-    ∙ ap (λ l. Ok (record { tables = ts; lines = l })) (append_assoc before (here ∷ []) said)
+    ∙ bodies_run (n + 1) lines said more ts os (before ++ here ∷ [])
+    ∙ ap (λ l. Ok (script_with ts os l)) (append_assoc before (here ∷ []) said)
 
 abbrev tables_of : List TableLine → List Table
 tables_of = map (λ l. l.table)
 
-pub headers_run : (n : ℕ) (lines : List Text) (tables : List TableLine) → AreHeaders n lines tables → (before : List TableLine) (bodies : List Text) → CanAdd (tables_of before) (tables_of tables)
-    → run (record { tables = before; lines = [] }) n (lines ++ bodies) ≡ run (record { tables = before ++ tables; lines = [] }) (n + length lines) bodies
-headers_run _ _ _ (AreHeaders.none n) before bodies taken =
+pub headers_run : (n : ℕ) (lines : List Text) (tables : List TableLine) (options : List OptionLine) → AreHeaders n lines tables options
+    → (before : List TableLine) (set : List OptionLine) (bodies : List Text) → CanAdd (tables_of before) (tables_of tables) → CanSet set options
+    → run (script_with before set []) n (lines ++ bodies) ≡ run (script_with (before ++ tables) (set ++ options) []) (n + length lines) bodies
+headers_run _ _ _ _ (AreHeaders.none n) before set bodies taken may =
     let none : n ≡ n + 0 = omega arith in
-    ap (λ k. run (record { tables = before; lines = [] }) k bodies) none ∙ ap (λ l. run (record { tables = l; lines = [] }) (n + 0) bodies) (sym (append-nil before))
-headers_run _ _ _ (AreHeaders.passed n line lines tables is more) before bodies taken =
-    let script : Script = record { tables = before; lines = [] } in
+    ap (λ k. run (script_with before set []) k bodies) none
+    ∙ ap (λ l. run (script_with l set []) (n + 0) bodies) (sym (append-nil before))
+    ∙ ap (λ l. run (script_with (before ++ []) l []) (n + 0) bodies) (sym (append-nil set))
+headers_run _ _ _ _ (AreHeaders.passed n line lines tables options is more) before set bodies taken may =
+    let script : Script = script_with before set [] in
     let further : n + 1 + length lines ≡ n + suc (length lines) = omega arith in
     ap (λ r. gone_on n r (λ after. run after (n + 1) (lines ++ bodies))) (line_read script n line script (Adds.over is))
-    ∙ headers_run (n + 1) lines tables more before bodies taken
-    ∙ ap (λ k. run (record { tables = before ++ tables; lines = [] }) k bodies) further
-headers_run _ _ _ (AreHeaders.table n line lines tables ws t has made more) before bodies taken =
-    let script : Script = record { tables = before; lines = [] } in
+    ∙ headers_run (n + 1) lines tables options more before set bodies taken may
+    ∙ ap (λ k. run (script_with (before ++ tables) (set ++ options) []) k bodies) further
+headers_run _ _ _ _ (AreHeaders.table n line lines tables options ws t has made more) before set bodies taken may =
+    let script : Script = script_with before set [] in
     let here : TableLine = record { line = n; table = t } in
     let further : n + 1 + length lines ≡ n + suc (length lines) = omega arith in
     let later : CanAdd (tables_of (before ++ here ∷ [])) (tables_of tables) =
     subst (λ l. CanAdd l (tables_of tables)) (sym (map-append (λ (l : TableLine). l.table) before (here ∷ []))) taken.1 in
     ap (λ r. gone_on n r (λ after. run after (n + 1) (lines ++ bodies))) (line_read script n line (table_added script n t) (Adds.makes ws t refl has made taken.0))
-    ∙ headers_run (n + 1) lines tables more (before ++ here ∷ []) bodies later
-    ∙ ap (λ k. run (record { tables = (before ++ here ∷ []) ++ tables; lines = [] }) k bodies) further
-    ∙ ap (λ l. run (record { tables = l; lines = [] }) (n + suc (length lines)) bodies) (append_assoc before (here ∷ []) tables)
+    ∙ headers_run (n + 1) lines tables options more (before ++ here ∷ []) set bodies later may
+    ∙ ap (λ k. run (script_with ((before ++ here ∷ []) ++ tables) (set ++ options) []) k bodies) further
+    ∙ ap (λ l. run (script_with l (set ++ options) []) (n + suc (length lines)) bodies) (append_assoc before (here ∷ []) tables)
+headers_run _ _ _ _ (AreHeaders.option n line lines tables options ws name k has is more) before set bodies taken may =
+    let script : Script = script_with before set [] in
+    let here : OptionLine = set_to n name k in
+    let further : n + 1 + length lines ≡ n + suc (length lines) = omega arith in
+    ap (λ r. gone_on n r (λ after. run after (n + 1) (lines ++ bodies))) (line_read script n line (option_added script here) (Adds.sets ws name k refl has is may.0))
+    ∙ headers_run (n + 1) lines tables options more before (set ++ here ∷ []) bodies taken may.1
+    ∙ ap (λ k. run (script_with (before ++ tables) ((set ++ here ∷ []) ++ options) []) k bodies) further
+    ∙ ap (λ l. run (script_with (before ++ tables) l []) (n + suc (length lines)) bodies) (append_assoc set (here ∷ []) options)
 
 -- ---- bytes that are too many
 
@@ -224,19 +272,20 @@ never_by front spoilt (Ok x) f last is =
 never_by front spoilt (Err w) f last is = absurd cc
 
 long_line : (script : Script) (n : ℕ) (line : Text) (last : Script) → ¬ (with_line true script n line ≡ Ok last)
-unfolding with_line passed with_table with_body legible
+unfolding with_line passed with_table with_option with_body legible
 long_line script n line last is = by (is_passed_over line) is
   where
     front : Legible
     front = legible true line
 
-    on : (b : Bool) → ¬ (cond b (with_table script n front) (with_body script n front) ≡ Ok last)
-    on true e = never_by front refl (table_line script.tables front.tokens front.end) (λ t. table_added script n t) last e
-    on false e = never_by front refl (body front.tokens front.end) (λ what. line_added script n what) last e
+    on : (k : Kind) → ¬ (by_kind k script n front ≡ Ok last)
+    on kind.Table e = never_by front refl (table_line script.tables front.tokens front.end) (λ t. table_added script n t) last e
+    on kind.Option e = never_by front refl (option_line script.options n (rest_of front.tokens) front.end) (λ o. option_added script o) last e
+    on kind.Body e = never_by front refl (body front.tokens front.end) (λ what. line_added script n what) last e
 
     by : (b : Bool) → ¬ (cond b (passed true script line) (with_front script n front) ≡ Ok last)
     by true e = absurd cc
-    by false e = on (is_header script.lines front.tokens) e
+    by false e = on (kind_of script.lines front.tokens) e
 
 long_read : (ps : List Text) (p : Text) (script : Script) (n : ℕ) (last : Script) → ¬ (read_from true script n (p ∷ ps) ≡ Ok last)
 unfolding with_last
@@ -275,15 +324,16 @@ not_long bytes script is = by (nat_lt 16777216 (length bytes)) refl is
     by false at e = ltb-false 16777216 (length bytes) at
 
 -- lines that were read make the script
-pub run_makes : (lines : List Text) (script : Script) → run nothing 1 lines ≡ Ok script → CanAdd [] (tables_of script.tables) → Makes lines script
+pub run_makes : (lines : List Text) (script : Script) → run nothing 1 lines ≡ Ok script → AreTaken script → Makes lines script
 run_makes lines script is taken =
     let r = run_all lines nothing 1 script refl is in
     record {
       headers = r.headers;
       bodies = r.bodies;
       split = r.split;
-      tables = subst (AreHeaders 1 r.headers) (sym r.all_tables) r.make;
-      taken = taken;
+      made = subst (λ os. AreHeaders 1 r.headers script.tables os) (sym r.all_options) (subst (λ ts. AreHeaders 1 r.headers ts r.options) (sym r.all_tables) r.make);
+      taken = taken.tables;
+      set = taken.options;
       said = subst (AreBodies (1 + length r.headers) r.bodies) (sym r.all_lines) r.speak;
     }
 
@@ -295,16 +345,18 @@ script_stands bytes script is =
       short = short;
       lines = lines.0;
       cut = lines.1;
-      made = run_makes lines.0 script (sym (short_script bytes lines.0 short lines.1) ∙ is) (script_tables bytes script is);
+      made = run_makes lines.0 script (sym (short_script bytes lines.0 short lines.1) ∙ is) (script_taken bytes script is);
     }
 
+-- lines that make a script are read as it
+pub makes_run : (lines : List Text) (script : Script) → Makes lines script → run nothing 1 lines ≡ Ok script
+makes_run lines script made =
+    ap (run nothing 1) made.split
+    ∙ headers_run 1 made.headers script.tables script.options made.made [] [] made.bodies made.taken made.set
+    ∙ bodies_run (1 + length made.headers) made.bodies script.lines made.said script.tables script.options []
+
 pub script_read : (bytes : Text) (script : Script) → IsScript bytes script → script_of bytes ≡ Ok script
-script_read bytes script is =
-    let made = is.made in
-    short_script bytes is.lines is.short is.cut
-    ∙ ap (run nothing 1) made.split
-    ∙ headers_run 1 made.headers script.tables made.tables [] made.bodies made.taken
-    ∙ bodies_run (1 + length made.headers) made.bodies script.lines made.said script.tables []
+script_read bytes script is = short_script bytes is.lines is.short is.cut ∙ makes_run is.lines script is.made
 
 pub grammar : IsGrammar
 grammar bytes script = (script_read bytes script, script_stands bytes script)

@@ -1,5 +1,5 @@
--- The tables of a script are such as a catalog takes, one after another.
-use Rattle.std.proofs.Common.{◌≡◌, ℕ, ◌+◌, Bool, true, false, cond, not, ◌&&◌, List, [], ◌∷◌, ◌++◌, append-nil, append_assoc, map, take, None, Result, Ok, Err, refl, subst}
+-- The tables of a script are such as a catalog takes, one after another, and each option that it sets may be set.
+use Rattle.std.proofs.Common.{◌≡◌, ℕ, ◌+◌, Bool, true, false, cond, not, ◌&&◌, List, [], ◌∷◌, ◌++◌, append-nil, append_assoc, map, take, None, Result, Ok, Err, refl, sym, subst}
 use Rattle.std.specs.Prelude.{IfOk}
 use Rattle.std.proofs.lemmas.List.{map-append}
 use Rattle.sk_lex.specs.Front.{Text}
@@ -8,16 +8,21 @@ use Rattle.sk_rows.specs.Catalog.{add_fault}
 use Rattle.sk_parse.specs.declared.fault.ParseFault.{ParseFault}
 use Rattle.sk_script.specs.declared.legible.Legible.{Legible}
 use Rattle.sk_rows.specs.Memory.{Gives}
+use Rattle.sk_script.specs.declared.line.Kind.{Kind}
+use Rattle.sk_script.specs.declared.line.Kind.TheVariants as kind
+use Rattle.sk_script.specs.declared.script.OptionLine.{OptionLine}
 use Rattle.sk_script.specs.declared.script.Script.{Script}
 use Rattle.sk_script.specs.declared.script.ScriptFault.{ScriptFault}
 use Rattle.sk_script.specs.declared.script.ScriptFault.TheVariants as fault
 use Rattle.sk_script.specs.declared.script.TableLine.{TableLine}
-use Rattle.sk_script.specs.Body.{body}
+use Rattle.sk_script.specs.Body.{body, rest_of}
 use Rattle.sk_script.specs.Header.{table_line}
 use Rattle.sk_script.specs.Legible.{legible}
-use Rattle.sk_script.specs.Script.{and_then, behind, gone_on, is_header, is_nil, is_passed_over, line_added, nothing, passed, pieces, read_from, script_of, table_added, wants, with_body, with_front, with_last, with_line, with_table, without_return}
+use Rattle.sk_script.specs.Options.{CanSet, MaySet, option_line}
+use Rattle.sk_script.specs.Script.{and_then, behind, by_kind, gone_on, is_nil, is_passed_over, kind_of, line_added, nothing, option_added, passed, pieces, read_from, script_of, table_added, wants, with_body, with_front, with_last, with_line, with_option, with_table, without_return}
 use Rattle.sk_script.specs.Tables.{CanAdd}
 use Rattle.sk_script.proofs.NewTables.{line_taken}
+use Rattle.sk_script.proofs.OptionRules.{option_words, set_to}
 
 can_add_more : (before ts : List Table) (t : Table) → CanAdd before ts → add_fault (before ++ ts) t ≡ None → CanAdd before (ts ++ t ∷ [])
 can_add_more before [] t can new =
@@ -25,13 +30,23 @@ can_add_more before [] t can new =
     (subst P (append-nil before) new, tt)
 can_add_more before (u ∷ ts) t can new = (can.0, can_add_more (before ++ u ∷ []) ts t can.1 (rw (append_assoc before (u ∷ []) ts) new))
 
+can_set_more : (before os : List OptionLine) (o : OptionLine) → CanSet before os → MaySet (before ++ os) o.name o.number → CanSet before (os ++ o ∷ [])
+can_set_more before [] o can new = (subst (λ l. MaySet l o.name o.number) (append-nil before) new, tt)
+can_set_more before (p ∷ os) o can new = (can.0, can_set_more (before ++ p ∷ []) os o can.1 (subst (λ l. MaySet l o.name o.number) (sym (append_assoc before (p ∷ []) os)) new))
+
 -- what is said of a script
-abbrev pub AreTaken : Script → Type 0
-AreTaken script = CanAdd [] (map (λ l. l.table) script.tables)
+pub record AreTaken (script : Script) : Type 0 where
+  pub tables : CanAdd [] (map (λ l. l.table) script.tables)
+  pub options : CanSet [] script.options
 
 taken_more : (script : Script) (n : ℕ) (t : Table) → AreTaken script → add_fault (map (λ l. l.table) script.tables) t ≡ None → AreTaken (table_added script n t)
-taken_more script n t taken new =
-    rw (map-append (λ (l : TableLine). l.table) script.tables (record { line = n; table = t } ∷ [])) (can_add_more [] (map (λ l. l.table) script.tables) t taken new)
+taken_more script n t taken new = record {
+  tables = rw (map-append (λ (l : TableLine). l.table) script.tables (record { line = n; table = t } ∷ [])) (can_add_more [] (map (λ l. l.table) script.tables) t taken.tables new);
+  options = taken.options;
+}
+
+taken_set : (script : Script) (o : OptionLine) → AreTaken script → MaySet script.options o.name o.number → AreTaken (option_added script o)
+taken_set script o taken new = record { tables = taken.tables; options = can_set_more [] script.options o taken.options new }
 
 -- a step behind another
 pub then_parts : {A B : Type 0} (r : Result A ParseFault) (f : A → Result B ParseFault) (y : B) → and_then r f ≡ Ok y → (x : A) × (r ≡ Ok x) × (f x ≡ Ok y)
@@ -46,18 +61,29 @@ taken_table script n front after taken e =
     let same : table_added script n t.0 ≡ after = cc rest.2 in
     subst AreTaken same (taken_more script n t.0 taken (line_taken script.tables front.tokens front.end t.0 t.1))
 
+taken_option : (script : Script) (n : ℕ) (front : Legible) (after : Script) → AreTaken script → with_option script n front ≡ Ok after → AreTaken after
+unfolding with_option
+taken_option script n front after taken e =
+    let o = then_parts (option_line script.options n (rest_of front.tokens) front.end) (λ o. and_then (behind front) (λ _. Ok (option_added script o))) after e in
+    let rest = then_parts (behind front) (λ (_ : Unit {0}). Ok (option_added script o.0)) after o.2 in
+    let same : option_added script o.0 ≡ after = cc rest.2 in
+    let setting = option_words script.options n (rest_of front.tokens) front.end o.0 o.1 in
+    let added : AreTaken (option_added script (set_to n setting.name setting.k)) = taken_set script (set_to n setting.name setting.k) taken setting.may in
+    subst AreTaken same (subst (λ p. AreTaken (option_added script p)) setting.is added)
+
 taken_body : (script : Script) (n : ℕ) (front : Legible) (after : Script) → AreTaken script → with_body script n front ≡ Ok after → AreTaken after
 unfolding with_body
 taken_body script n front after taken e =
     let what = then_parts (body front.tokens front.end) (λ what. and_then (behind front) (λ _. Ok (line_added script n what))) after e in
     let rest = then_parts (behind front) (λ (_ : Unit {0}). Ok (line_added script n what.0)) after what.2 in
     let same : line_added script n what.0 ≡ after = cc rest.2 in
-    let still : AreTaken (line_added script n what.0) = taken in
+    let still : AreTaken (line_added script n what.0) = record { tables = taken.tables; options = taken.options } in
     subst AreTaken same still
 
-taken_front : (header : Bool) (script : Script) (n : ℕ) (front : Legible) (after : Script) → AreTaken script → cond header (with_table script n front) (with_body script n front) ≡ Ok after → AreTaken after
-taken_front true script n front after taken e = taken_table script n front after taken e
-taken_front false script n front after taken e = taken_body script n front after taken e
+taken_front : (k : Kind) (script : Script) (n : ℕ) (front : Legible) (after : Script) → AreTaken script → by_kind k script n front ≡ Ok after → AreTaken after
+taken_front kind.Table script n front after taken e = taken_table script n front after taken e
+taken_front kind.Option script n front after taken e = taken_option script n front after taken e
+taken_front kind.Body script n front after taken e = taken_body script n front after taken e
 
 taken_same : (bad : Bool) (w : ParseFault) (script after : Script) → AreTaken script → cond bad (Err w) (Ok script) ≡ Ok after → AreTaken after
 taken_same true w script after taken e = absurd cc
@@ -74,7 +100,7 @@ taken_by : (over long : Bool) (script : Script) (n : ℕ) (line : Text) (after :
 taken_by true long script n line after taken e = taken_passed long script line after taken e
 taken_by false long script n line after taken e =
     let front = legible long line in
-    taken_front (is_header script.lines front.tokens) script n front after taken e
+    taken_front (kind_of script.lines front.tokens) script n front after taken e
 
 pub taken_line : (long : Bool) (script : Script) (n : ℕ) (line : Text) (after : Script) → AreTaken script → with_line long script n line ≡ Ok after → AreTaken after
 unfolding with_line
@@ -108,13 +134,21 @@ taken_from long script n (piece ∷ next ∷ more) last taken e =
     let parts = gone_parts n (with_line false script n (without_return piece)) (λ after. read_from long after (n + 1) (next ∷ more)) last e in
     taken_from long parts.0 (n + 1) (next ∷ more) last (taken_line false script n (without_return piece) parts.0 taken parts.1) parts.2
 
+pub none_taken : AreTaken nothing
+none_taken = record { tables = tt; options = tt }
+
 -- of the script that bytes are
-pub script_tables : (bytes : Text) (script : Script) → script_of bytes ≡ Ok script → CanAdd [] (map (λ l. l.table) script.tables)
+pub script_taken : (bytes : Text) (script : Script) → script_of bytes ≡ Ok script → AreTaken script
 unfolding script_of
-script_tables bytes script e = taken_from _ nothing 1 (pieces (take 16777216 bytes)) script tt e
+script_taken bytes script e = taken_from _ nothing 1 (pieces (take 16777216 bytes)) script none_taken e
 
 -- of what came back for the bytes
 pub given_tables : (bytes : Text) (result : Result Script ScriptFault) → Gives wants result (script_of bytes) → IfOk result (λ script. CanAdd [] (map (λ l. l.table) script.tables))
-given_tables bytes (Ok script) e = script_tables bytes script e
+given_tables bytes (Ok script) e = (script_taken bytes script e).tables
 given_tables bytes (Err (fault.At line place)) e = tt
 given_tables bytes (Err fault.NoMemory) e = tt
+
+pub given_options : (bytes : Text) (result : Result Script ScriptFault) → Gives wants result (script_of bytes) → IfOk result (λ script. CanSet [] script.options)
+given_options bytes (Ok script) e = (script_taken bytes script e).options
+given_options bytes (Err (fault.At line place)) e = tt
+given_options bytes (Err fault.NoMemory) e = tt

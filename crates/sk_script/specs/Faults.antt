@@ -1,30 +1,32 @@
 -- The first fault of a script: its line is the first that has one, and in that line all before its place fits.
 use Rattle.std.specs.Prelude.{◌≡◌, ◌↔◌, ◌<◌, ℕ, ◌+◌, Bool, true, false, nat_lt, List, [], ◌∷◌, ◌++◌, length, map, take, Option, Some, None, Result, Ok, Err, ◌⊎◌}
 use Rattle.std.specs.List.{list_all}
+use Rattle.sk_lex.specs.declared.token.Keyword.TheVariants as key
 use Rattle.sk_lex.specs.declared.token.Token.{Token}
 use Rattle.sk_lex.specs.declared.token.Word.{Word}
 use Rattle.sk_lex.specs.declared.token.Word.TheVariants as word
 use Rattle.sk_lex.specs.Front.{Text}
 use Rattle.sk_lex.specs.Marks as mark
-use Rattle.sk_rows.specs.declared.statement.Statement.{Statement}
 use Rattle.sk_rows.specs.declared.table.Column.{Column}
 use Rattle.sk_rows.specs.declared.table.Table.{Table}
 use Rattle.sk_rows.specs.declared.value.Sort.TheVariants as sorts
 use Rattle.sk_rows.specs.Catalog.{add_fault}
 use Rattle.sk_parse.specs.Places.{IsFirstFault, words}
-use Rattle.sk_parse.specs.Saying.{Says}
 use Rattle.sk_parse.specs.Statements.{place_of}
+use Rattle.sk_script.specs.declared.line.Kind.TheVariants as kind
 use Rattle.sk_script.specs.declared.script.Line.{Line}
+use Rattle.sk_script.specs.declared.script.OptionLine.{OptionLine}
 use Rattle.sk_script.specs.declared.script.Script.{Script}
 use Rattle.sk_script.specs.declared.script.ScriptFault.{ScriptFault}
 use Rattle.sk_script.specs.declared.script.ScriptFault.TheVariants as fault
 use Rattle.sk_script.specs.declared.script.TableLine.{TableLine}
-use Rattle.sk_script.specs.Body.{goes_on, session_of}
+use Rattle.sk_script.specs.Body.{begins_step, goes_on, rest_of, session_of}
 use Rattle.sk_script.specs.Header.{engine_of, is_bool_key, new_column, new_table, sort_of}
 use Rattle.sk_script.specs.Legible.{legible}
 use Rattle.sk_script.specs.Limits.{longest_script}
-use Rattle.sk_script.specs.Rules.{IsBody, IsScript, IsTable, Makes}
-use Rattle.sk_script.specs.Script.{good_len, is_header, is_passed_over, pieces, script_of, without_return}
+use Rattle.sk_script.specs.Options.{MaySet, new_option, number_of}
+use Rattle.sk_script.specs.Rules.{IsBody, IsSaid, IsScript, IsSet, IsTable, Makes}
+use Rattle.sk_script.specs.Script.{good_len, is_passed_over, kind_of, pieces, script_of, without_return}
 
 -- no token follows, or one whose word is none of these
 abbrev pub Misses : {A : Type 0} → (Word → Option A) → List Token → Type 0
@@ -61,36 +63,51 @@ pub data TableFault (tables : List TableLine) (end : ℕ) : List Token → ℕ �
   columns : (t u : Token) (ts : List Token) (name : List ℕ) (store : Bool) (place : ℕ) → new_table tables t.word ≡ Some name → engine_of u.word ≡ Some store → ColumnFault end [] ts place
       → TableFault tables end (t ∷ u ∷ ts) place
 
+-- ---- lines that set an option
+
+-- Where the tokens behind SET are at fault.
+pub data OptionFault (options : List OptionLine) (end : ℕ) : List Token → ℕ → Type 0 where
+  -- no option, or one that a line before it sets
+  name : (ts : List Token) → Misses (new_option options) ts → OptionFault options end ts (place_of end ts)
+  -- no number, or one out of the option's range
+  number : (t : Token) (ts : List Token) (name : List ℕ) → new_option options t.word ≡ Some name → Misses (number_of name) ts → OptionFault options end (t ∷ ts) (place_of end ts)
+  behind : (t u v : Token) (ts : List Token) (name : List ℕ) (k : ℕ) → new_option options t.word ≡ Some name → number_of name u.word ≡ Some k → OptionFault options end (t ∷ u ∷ v ∷ ts) (v.from + 1)
+
 -- ---- lines of a session
 
--- Where the tokens of a session's line are at fault. A statement's own fault is its first by its grammar.
+-- Where the tokens of what a session says are at fault. Nothing stands behind STEP, and a statement's own fault is its first
+-- by its grammar.
+pub data SaidFault (end : ℕ) : List Token → ℕ → Type 0 where
+  step : (t v : Token) (ts : List Token) → t.word ≡ word.Key key.Step → SaidFault end (t ∷ v ∷ ts) (v.from + 1)
+  statement : (ts : List Token) (place : ℕ) → begins_step ts ≡ false → IsFirstFault ts end place → SaidFault end ts place
+
+-- Where the tokens of a session's line are at fault.
 pub data BodyFault (end : ℕ) : List Token → ℕ → Type 0 where
   session : (ts : List Token) → Misses session_of ts → BodyFault end ts (place_of end ts)
   colon : (t : Token) (ts : List Token) (n : ℕ) → session_of t.word ≡ Some n → IsNoMark mark.colon ts → BodyFault end (t ∷ ts) (place_of end ts)
-  plain : (t c : Token) (ts : List Token) (n place : ℕ) → session_of t.word ≡ Some n → c.word ≡ word.Mark mark.colon mark.none → list_all goes_on ts ≡ true → IsFirstFault ts end place
+  plain : (t c : Token) (ts : List Token) (n place : ℕ) → session_of t.word ≡ Some n → c.word ≡ word.Mark mark.colon mark.none → list_all goes_on ts ≡ true → SaidFault end ts place
       → BodyFault end (t ∷ c ∷ ts) place
-  -- the statement ends where the first semicolon stands
+  -- what is said ends where the first semicolon stands
   closed : (t c : Token) (us : List Token) (m : Token) (ts : List Token) (n place : ℕ) → session_of t.word ≡ Some n → c.word ≡ word.Mark mark.colon mark.none → list_all goes_on us ≡ true → m.word ≡ word.Mark mark.semicolon mark.none
-      → IsFirstFault us m.from place → BodyFault end (t ∷ c ∷ us ++ m ∷ ts) place
-  behind : (t c : Token) (us : List Token) (m v : Token) (ts : List Token) (n : ℕ) (s : Statement) → session_of t.word ≡ Some n → c.word ≡ word.Mark mark.colon mark.none → m.word ≡ word.Mark mark.semicolon mark.none → Says (words us) s
+      → SaidFault m.from us place → BodyFault end (t ∷ c ∷ us ++ m ∷ ts) place
+  behind : (t c : Token) (us : List Token) (m v : Token) (ts : List Token) (n : ℕ) (what : Line) → session_of t.word ≡ Some n → c.word ≡ word.Mark mark.colon mark.none → m.word ≡ word.Mark mark.semicolon mark.none → IsSaid n (words us) what
       → BodyFault end (t ∷ c ∷ us ++ m ∷ v ∷ ts) (v.from + 1)
 
 -- ---- one line
-
--- tokens behind the first
-abbrev pub rest_of : List Token → List Token
-rest_of [] = []
-rest_of (t ∷ ts) = ts
 
 -- Where a line is at fault behind this script. The flag: a byte stands behind it which may not stand there. The fault
 -- is in what can be read of the line, or, where that fits, at the first byte that may not stand there.
 pub data LineFault (before : Script) (long : Bool) (line : Text) : ℕ → Type 0 where
   passed : is_passed_over line ≡ true → (long ≡ true) ⊎ (good_len line < length line) → LineFault before long line (good_len line + 1)
-  table : (place : ℕ) → is_passed_over line ≡ false → is_header before.lines (legible long line).tokens ≡ true
+  table : (place : ℕ) → is_passed_over line ≡ false → kind_of before.lines (legible long line).tokens ≡ kind.Table
       → TableFault before.tables (legible long line).end (rest_of (legible long line).tokens) place → LineFault before long line place
-  body : (place : ℕ) → is_passed_over line ≡ false → is_header before.lines (legible long line).tokens ≡ false
+  option : (place : ℕ) → is_passed_over line ≡ false → kind_of before.lines (legible long line).tokens ≡ kind.Option
+      → OptionFault before.options (legible long line).end (rest_of (legible long line).tokens) place → LineFault before long line place
+  body : (place : ℕ) → is_passed_over line ≡ false → kind_of before.lines (legible long line).tokens ≡ kind.Body
       → BodyFault (legible long line).end (legible long line).tokens place → LineFault before long line place
   spoilt_table : (t : Table) → is_passed_over line ≡ false → before.lines ≡ [] → IsTable (words (legible long line).tokens) t → add_fault (map (λ l. l.table) before.tables) t ≡ None
+      → (legible long line).spoilt ≡ true → LineFault before long line ((legible long line).end + 1)
+  spoilt_option : (name : List ℕ) (k : ℕ) → is_passed_over line ≡ false → before.lines ≡ [] → IsSet (words (legible long line).tokens) name k → MaySet before.options name k
       → (legible long line).spoilt ≡ true → LineFault before long line ((legible long line).end + 1)
   spoilt_body : (what : Line) → is_passed_over line ≡ false → IsBody (words (legible long line).tokens) what → (legible long line).spoilt ≡ true
       → LineFault before long line ((legible long line).end + 1)

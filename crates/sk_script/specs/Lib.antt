@@ -3,8 +3,10 @@ pub mod Lines
 pub mod Legible
 pub mod Header
 pub mod Body
+pub mod Options
 pub mod Script
 pub mod Rules
 pub mod Faults
 pub mod Tables
+pub mod Texts
 pub mod Words

@@ -12,3 +12,7 @@ most_read = longest_script + 1
 -- of a line, in bytes without its end
 abbrev pub longest_line : ℕ
 longest_line = 4096
+
+-- sessions are numbered from 1 to this
+abbrev pub most_sessions : ℕ
+most_sessions = 64

@@ -19,10 +19,12 @@ use Rattle.sk_parse.specs.Places.{words}
 use Rattle.sk_parse.specs.Saying.{AreListed, Says}
 use Rattle.sk_script.specs.declared.script.Line.{Line}
 use Rattle.sk_script.specs.declared.script.Line.TheVariants as line
+use Rattle.sk_script.specs.declared.script.OptionLine.{OptionLine}
 use Rattle.sk_script.specs.declared.script.Script.{Script}
 use Rattle.sk_script.specs.declared.script.ScriptLine.{ScriptLine}
 use Rattle.sk_script.specs.declared.script.TableLine.{TableLine}
-use Rattle.sk_script.specs.Limits.{longest_line, longest_script}
+use Rattle.sk_script.specs.Limits.{longest_line, longest_script, most_sessions}
+use Rattle.sk_script.specs.Options.{CanSet}
 use Rattle.sk_script.specs.Script.{goes_on, is_passed_over, script_of, without_return}
 use Rattle.sk_script.specs.Tables.{CanAdd}
 
@@ -45,14 +47,28 @@ IsColumn ws c = ws ≡ word.Name c.name ∷ word.Key (sort_key c.sort) ∷ []
 abbrev pub IsTable : List Word → Table → Type 0
 IsTable ws t = (us : List Word) × (ws ≡ word.Key key.Table ∷ word.Name t.name ∷ word.Key (engine_key t.store) ∷ us) × AreListed IsColumn us t.columns
 
--- there is one session so far
-abbrev pub IsSession : ℕ → Type 0
-IsSession n = n ≡ 1
+-- "SET" option number
+abbrev pub IsSet : List Word → List ℕ → ℕ → Type 0
+IsSet ws name k = ws ≡ word.Key key.Set ∷ word.Name name ∷ word.Number k ∷ []
 
--- number ":" statement [ ";" ]
+-- sessions are numbered from 1
+abbrev pub IsSession : ℕ → Type 0
+IsSession n = (1 ≤ n) × (n ≤ most_sessions)
+
+-- the session whose line it is
+abbrev pub session_in : Line → ℕ
+session_in (line.Says n s) = n
+session_in (line.Step n) = n
+
+-- "STEP" | statement
+pub data IsSaid (n : ℕ) : List Word → Line → Type 0 where
+  step : IsSaid n (word.Key key.Step ∷ []) (line.Step n)
+  statement : (us : List Word) (s : Statement) → Says us s → IsSaid n us (line.Says n s)
+
+-- number ":" said [ ";" ]
 pub data IsBody : List Word → Line → Type 0 where
-  plain : (n : ℕ) (us : List Word) (s : Statement) → IsSession n → Says us s → IsBody (word.Number n ∷ word.Mark mark.colon mark.none ∷ us) (line.Says n s)
-  closed : (n : ℕ) (us : List Word) (s : Statement) → IsSession n → Says us s → IsBody (word.Number n ∷ word.Mark mark.colon mark.none ∷ us ++ word.Mark mark.semicolon mark.none ∷ []) (line.Says n s)
+  plain : (n : ℕ) (us : List Word) (what : Line) → IsSession n → IsSaid n us what → IsBody (word.Number n ∷ word.Mark mark.colon mark.none ∷ us) what
+  closed : (n : ℕ) (us : List Word) (what : Line) → IsSession n → IsSaid n us what → IsBody (word.Number n ∷ word.Mark mark.colon mark.none ∷ us ++ word.Mark mark.semicolon mark.none ∷ []) what
 
 -- ---- lines
 
@@ -70,12 +86,15 @@ pub record HasWords (line : Text) (ws : List Word) : Type 0 where
   pub cut : tokens line ≡ Ok found
   pub words : words found ≡ ws
 
--- { header }: lines from this number on that make tables, or are passed over
-pub data AreHeaders : ℕ → List Text → List TableLine → Type 0 where
-  none : (n : ℕ) → AreHeaders n [] []
-  passed : (n : ℕ) (line : Text) (lines : List Text) (tables : List TableLine) → IsPassed line → AreHeaders (n + 1) lines tables → AreHeaders n (line ∷ lines) tables
-  table : (n : ℕ) (line : Text) (lines : List Text) (tables : List TableLine) (ws : List Word) (t : Table) → HasWords line ws → IsTable ws t → AreHeaders (n + 1) lines tables
-      → AreHeaders n (line ∷ lines) (record { line = n; table = t } ∷ tables)
+-- { header }: lines from this number on that make tables and set options, or are passed over
+pub data AreHeaders : ℕ → List Text → List TableLine → List OptionLine → Type 0 where
+  none : (n : ℕ) → AreHeaders n [] [] []
+  passed : (n : ℕ) (line : Text) (lines : List Text) (tables : List TableLine) (options : List OptionLine) → IsPassed line → AreHeaders (n + 1) lines tables options
+      → AreHeaders n (line ∷ lines) tables options
+  table : (n : ℕ) (line : Text) (lines : List Text) (tables : List TableLine) (options : List OptionLine) (ws : List Word) (t : Table) → HasWords line ws → IsTable ws t
+      → AreHeaders (n + 1) lines tables options → AreHeaders n (line ∷ lines) (record { line = n; table = t } ∷ tables) options
+  option : (n : ℕ) (line : Text) (lines : List Text) (tables : List TableLine) (options : List OptionLine) (ws : List Word) (name : List ℕ) (k : ℕ) → HasWords line ws → IsSet ws name k
+      → AreHeaders (n + 1) lines tables options → AreHeaders n (line ∷ lines) tables (record { line = n; name = name; number = k } ∷ options)
 
 -- { body }: lines from this number on that say something, or are passed over
 pub data AreBodies : ℕ → List Text → List ScriptLine → Type 0 where
@@ -96,13 +115,14 @@ pub data AreLines : Text → List Text → Type 0 where
   last : (b : ℕ) (line : Text) → IsOpen (b ∷ line) → AreLines (b ∷ line) ((b ∷ line) ∷ [])
   ended : (line rest : Text) (lines : List Text) → IsOpen line → AreLines rest lines → AreLines (line ++ 10 ∷ rest) (without_return line ∷ lines)
 
--- script = { header } { body }; a catalog takes the tables, one after another
+-- script = { header } { body }; a catalog takes the tables, and each option may be set, one after another
 pub record Makes (lines : List Text) (script : Script) : Type 0 where
   pub headers : List Text
   pub bodies : List Text
   pub split : lines ≡ headers ++ bodies
-  pub tables : AreHeaders 1 headers script.tables
+  pub made : AreHeaders 1 headers script.tables script.options
   pub taken : CanAdd [] (map (λ l. l.table) script.tables)
+  pub set : CanSet [] script.options
   pub said : AreBodies (1 + length headers) bodies script.lines
 
 -- a script is no longer than its limit

@@ -12,15 +12,19 @@ use Rattle.sk_rows.specs.Text.{is_printable}
 use Rattle.sk_parse.specs.declared.fault.ParseFault.{ParseFault}
 use Rattle.sk_parse.specs.declared.fault.ParseFault.TheVariants as parse
 use Rattle.sk_script.specs.declared.legible.Legible.{Legible}
+use Rattle.sk_script.specs.declared.line.Kind.{Kind}
+use Rattle.sk_script.specs.declared.line.Kind.TheVariants as kind
 use Rattle.sk_script.specs.declared.script.Line.{Line}
+use Rattle.sk_script.specs.declared.script.OptionLine.{OptionLine}
 use Rattle.sk_script.specs.declared.script.Script.{Script}
 use Rattle.sk_script.specs.declared.script.ScriptFault.{ScriptFault}
 use Rattle.sk_script.specs.declared.script.ScriptFault.TheVariants as fault
 use Rattle.sk_script.specs.declared.script.ScriptLine.{ScriptLine}
-use Rattle.sk_script.specs.Body.{body}
+use Rattle.sk_script.specs.Body.{body, rest_of}
 use Rattle.sk_script.specs.Header.{table_line}
 use Rattle.sk_script.specs.Legible.{capped, legible}
 use Rattle.sk_script.specs.Limits.{longest_script}
+use Rattle.sk_script.specs.Options.{option_line}
 
 -- ---- one line
 
@@ -37,14 +41,16 @@ good_len line = capped (prefix_len is_printable line)
 unfoldable pub passed : Bool → Script → Text → Result Script ParseFault
 passed long script line = if long || nat_lt (good_len line) (length line) then Err (parse.Unexpected (good_len line + 1)) else Ok script
 
-abbrev pub is_table : Word → Bool
-is_table (word.Key key.Table) = true
-is_table _ = false
+-- what a line does by its first word
+abbrev pub kind_by : Word → Kind
+kind_by (word.Key key.Table) = kind.Table
+kind_by (word.Key key.Set) = kind.Option
+kind_by _ = kind.Body
 
--- the line makes a table; none does behind a line of a session
-abbrev pub is_header : List ScriptLine → List Token → Bool
-is_header [] (t ∷ ts) = is_table t.word
-is_header _ _ = false
+-- a line makes a table, sets an option or says something; behind a session's line each says something
+abbrev pub kind_of : List ScriptLine → List Token → Kind
+kind_of [] (t ∷ ts) = kind_by t.word
+kind_of _ _ = kind.Body
 
 -- the fault behind the front of a line, if there is one
 abbrev pub behind : Legible → Result (Unit {0}) ParseFault
@@ -55,23 +61,36 @@ and_then (Ok x) f = f x
 and_then (Err e) f = Err e
 
 abbrev pub table_added : Script → ℕ → Table → Script
-table_added script n table = record { tables = script.tables ++ record { line = n; table = table } ∷ []; lines = script.lines }
+table_added script n table = record { tables = script.tables ++ record { line = n; table = table } ∷ []; options = script.options; lines = script.lines }
+
+abbrev pub option_added : Script → OptionLine → Script
+option_added script o = record { tables = script.tables; options = script.options ++ o ∷ []; lines = script.lines }
 
 abbrev pub line_added : Script → ℕ → Line → Script
-line_added script n what = record { tables = script.tables; lines = script.lines ++ record { line = n; what = what } ∷ [] }
+line_added script n what = record { tables = script.tables; options = script.options; lines = script.lines ++ record { line = n; what = what } ∷ [] }
 
 unfoldable pub with_table : Script → ℕ → Legible → Result Script ParseFault
 with_table script n front =
     and_then (table_line script.tables front.tokens front.end) (λ table.
     and_then (behind front) (λ _. Ok (table_added script n table)))
 
+unfoldable pub with_option : Script → ℕ → Legible → Result Script ParseFault
+with_option script n front =
+    and_then (option_line script.options n (rest_of front.tokens) front.end) (λ o.
+    and_then (behind front) (λ _. Ok (option_added script o)))
+
 unfoldable pub with_body : Script → ℕ → Legible → Result Script ParseFault
 with_body script n front =
     and_then (body front.tokens front.end) (λ what.
     and_then (behind front) (λ _. Ok (line_added script n what)))
 
+abbrev pub by_kind : Kind → Script → ℕ → Legible → Result Script ParseFault
+by_kind kind.Table script n front = with_table script n front
+by_kind kind.Option script n front = with_option script n front
+by_kind kind.Body script n front = with_body script n front
+
 abbrev pub with_front : Script → ℕ → Legible → Result Script ParseFault
-with_front script n front = if is_header script.lines front.tokens then with_table script n front else with_body script n front
+with_front script n front = by_kind (kind_of script.lines front.tokens) script n front
 
 -- The script with the line of this number, or the line's first fault. Its front is read as if the line ended there,
 -- so a fault before the byte that may not stand there comes first.
@@ -130,7 +149,7 @@ read_from long script n (piece ∷ next ∷ more) =
     gone_on n (with_line false script n (without_return piece)) (λ after. read_from long after (n + 1) (next ∷ more))
 
 abbrev pub nothing : Script
-nothing = record { tables = []; lines = [] }
+nothing = record { tables = []; options = []; lines = [] }
 
 -- The script that the bytes are, or its first fault. What stands past the limit of scripts is not looked at.
 unfoldable pub script_of : Text → Result Script ScriptFault

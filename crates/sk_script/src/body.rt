@@ -7,14 +7,14 @@ ghost use Rattle.sk_rows.specs.Memory.{Gives};
 ghost use Rattle.sk_script.specs.Body as spec;
 ghost use Rattle.sk_script.specs.Lines.{IsLine, wants};
 
+use crate::limits::MOST_SESSIONS;
 use crate::script::Line;
-use sk_lex::{Token, Word};
+use sk_lex::{Keyword, Token, Word};
 use sk_parse::{ParseFault, statement};
-use sk_rows::Statement;
 use std::alloc::Global;
 
 /// The fault that the first of the tokens does not fit, or that there is none.
-fn misfit(tokens: &[Token], end: u32) -> ParseFault
+pub fn misfit(tokens: &[Token], end: u32) -> ParseFault
     requires { IsLine tokens.now end }
     ensures { result ≡ ParseFault.Unexpected (place_of end tokens.now) }
 {
@@ -24,12 +24,18 @@ fn misfit(tokens: &[Token], end: u32) -> ParseFault
     }
 }
 
-/// The session that a word names. There is one.
+/// The session that a word names.
 fn session_of(word: &Word) -> Option<u16>
     ensures { result ≡ spec.session_of word.now }
 {
     match word {
-        Word::Number(n) => { if *n == 1 { Some(1) } else { None } }
+        Word::Number(n) => {
+            if 1 <= *n && *n <= MOST_SESSIONS {
+                Some(*n as u16)
+            } else {
+                None
+            }
+        }
         _ => None,
     }
 }
@@ -39,6 +45,15 @@ fn is_mark(byte: u8, word: &Word) -> bool
 {
     match word {
         Word::Mark(a, b) => *a == byte && *b == 0,
+        _ => false,
+    }
+}
+
+fn is_step(word: &Word) -> bool
+    ensures { result ≡ spec.is_step word.now }
+{
+    match word {
+        Word::Key(Keyword::Step) => true,
         _ => false,
     }
 }
@@ -55,20 +70,42 @@ fn statement_len(tokens: &[Token]) -> usize
     n
 }
 
-/// The statement before a semicolon, with nothing behind that.
+/// STEP alone, or a statement.
+#[tactic(auto, using(crate::proofs::Rising::line_behind), unfolding(crate::specs::Body::phrase))]
+fn phrase(alloc: Global, session: u16, tokens: &[Token], end: u32) -> Result<Line, ParseFault>
+    requires { IsLine tokens.now end }
+    ensures { Gives wants result (spec.phrase session tokens.now end) }
+{
+    match tokens {
+        [first, rest @ ..] if is_step(&first.word) => {
+            if rest.is_empty() {
+                Ok(Line::Step { session })
+            } else {
+                Err(misfit(rest, end))
+            }
+        }
+        _ => {
+            let statement = statement(alloc, tokens, end)?;
+            Ok(Line::Says { session, statement })
+        }
+    }
+}
+
+/// What is said before a semicolon, with nothing behind that.
 #[tactic(auto, unfolding(crate::specs::Body::closed))]
 fn closed(
     alloc: Global,
+    session: u16,
     tokens: &[Token],
     end: u32,
     rest: &[Token],
     rest_end: u32,
-) -> Result<Statement, ParseFault>
+) -> Result<Line, ParseFault>
     requires before { IsLine tokens.now end }
     requires behind { IsLine rest.now rest_end }
-    ensures { Gives wants result (spec.closed tokens.now end rest.now) }
+    ensures { Gives wants result (spec.closed session tokens.now end rest.now) }
 {
-    let found = statement(alloc, tokens, end)?;
+    let found = phrase(alloc, session, tokens, end)?;
     if rest.is_empty() {
         Ok(found)
     } else {
@@ -78,14 +115,14 @@ fn closed(
 
 /// What is said, with or without a semicolon behind it.
 #[tactic(auto, using(crate::proofs::Rising::line_behind), unfolding(crate::specs::Body::said))]
-fn said(alloc: Global, tokens: &[Token], end: u32) -> Result<Statement, ParseFault>
+fn said(alloc: Global, session: u16, tokens: &[Token], end: u32) -> Result<Line, ParseFault>
     requires { IsLine tokens.now end }
-    ensures { Gives wants result (spec.said tokens.now end) }
+    ensures { Gives wants result (spec.said session tokens.now end) }
 {
     let n = statement_len(tokens);
     match &tokens[n..] {
-        [] => statement(alloc, tokens, end),
-        [mark, rest @ ..] => closed(alloc, &tokens[..n], mark.from, rest, end),
+        [] => phrase(alloc, session, tokens, end),
+        [mark, rest @ ..] => closed(alloc, session, &tokens[..n], mark.from, rest, end),
     }
 }
 
@@ -107,6 +144,5 @@ pub fn body(alloc: Global, tokens: &[Token], end: u32) -> Result<Line, ParseFaul
     if !is_mark(b':', &colon.word) {
         return Err(misfit(behind, end));
     }
-    let statement = said(alloc, words, end)?;
-    Ok(Line::Says { session, statement })
+    said(alloc, session, words, end)
 }

@@ -7,13 +7,19 @@ mod laws;
 mod legible;
 mod limits;
 mod line;
+mod options;
 mod reading;
 mod script;
+mod settings;
 mod words;
 
 pub use laws::{bytes_are_read_by_the_grammar, faults_are_read_by_the_grammar};
 pub use reading::read_script;
-pub use script::{Line, Script, ScriptFault, ScriptLine, ScriptLineList, TableLine, TableLineList};
+pub use script::{
+    Line, OptionLine, OptionLineList, Script, ScriptFault, ScriptLine, ScriptLineList, TableLine,
+    TableLineList,
+};
+pub use settings::Settings;
 pub use sk_text::{put_reply_lines, put_report, put_script_fault};
 pub use words::place;
 

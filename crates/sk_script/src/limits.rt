@@ -5,3 +5,6 @@ pub const LONGEST_SCRIPT: usize = 16_777_216;
 
 /// The longest line, in bytes without its end.
 pub const LONGEST_LINE: usize = 4096;
+
+/// Sessions are numbered from 1 to this.
+pub const MOST_SESSIONS: u64 = 64;

@@ -3,6 +3,7 @@
 ghost use Rattle.std.specs.Prelude.{◌≡◌, ◌≤◌, length};
 ghost use Rattle.sk_rows.specs.Memory.{Gives};
 ghost use Rattle.sk_script.specs.Limits.{longest_line, longest_script};
+ghost use Rattle.sk_script.specs.Body.{rest_of as rest_of_tokens};
 ghost use Rattle.sk_script.specs.Script as spec;
 ghost use Rattle.sk_script.specs.Lines.{IsLine, wants};
 
@@ -10,6 +11,7 @@ use crate::body::body;
 use crate::header::table_line;
 use crate::legible::{Legible, legible_front};
 use crate::limits::LONGEST_LINE;
+use crate::options::option_line;
 use crate::script::{Script, ScriptLine, TableLine};
 use sk_lex::{Keyword, Token, Word};
 use sk_parse::ParseFault;
@@ -55,22 +57,34 @@ fn passed(script: Script, line: &[u8], long: bool) -> Result<Script, ParseFault>
     }
 }
 
-fn is_table(word: &Word) -> bool
-    ensures { result ≡ spec.is_table word.now }
+/// What a line does.
+#[derive(Clone, Copy, Debug, PartialEq, Eq)]
+pub enum Kind {
+    /// It makes a table.
+    Table,
+    /// It sets an option.
+    Option,
+    /// A session says something.
+    Body,
+}
+
+fn kind_by(word: &Word) -> Kind
+    ensures { result ≡ spec.kind_by word.now }
 {
     match word {
-        Word::Key(Keyword::Table) => true,
-        _ => false,
+        Word::Key(Keyword::Table) => Kind::Table,
+        Word::Key(Keyword::Set) => Kind::Option,
+        _ => Kind::Body,
     }
 }
 
-/// Whether a line makes a table. Behind a session's line none does.
-fn is_header(lines: &[ScriptLine], tokens: &[Token]) -> bool
-    ensures { result ≡ spec.is_header lines.now tokens.now }
+/// What a line does by its first word. Behind a session's line each is one of a session.
+fn kind_of(lines: &[ScriptLine], tokens: &[Token]) -> Kind
+    ensures { result ≡ spec.kind_of lines.now tokens.now }
 {
     match (lines, tokens) {
-        ([], [t, ..]) => is_table(&t.word),
-        _ => false,
+        ([], [t, ..]) => kind_by(&t.word),
+        _ => Kind::Body,
     }
 }
 
@@ -98,7 +112,11 @@ fn with_table(
     requires { IsLine front.now.tokens front.now.end }
     ensures { Gives wants result (spec.with_table script number front.now) }
 {
-    let Script { mut tables, lines } = script;
+    let Script {
+        mut tables,
+        options,
+        lines,
+    } = script;
     let table = table_line(alloc, tables.as_slice(), front.tokens.as_slice(), front.end)?;
     behind(front)?;
     if tables
@@ -110,7 +128,49 @@ fn with_table(
     {
         return Err(ParseFault::NoMemory);
     }
-    Ok(Script { tables, lines })
+    Ok(Script {
+        tables,
+        options,
+        lines,
+    })
+}
+
+/// The tokens behind the first.
+fn rest_of(tokens: &[Token]) -> &[Token]
+    ensures { result.now ≡ rest_of_tokens tokens.now }
+{
+    match tokens {
+        [] => tokens,
+        [_, rest @ ..] => rest,
+    }
+}
+
+#[tactic(auto, unfolding(crate::specs::Script::with_option))]
+fn with_option(
+    alloc: Global,
+    script: Script,
+    number: u32,
+    front: &Legible,
+) -> Result<Script, ParseFault>
+    requires { IsLine front.now.tokens front.now.end }
+    ensures { Gives wants result (spec.with_option script number front.now) }
+{
+    let Script {
+        tables,
+        mut options,
+        lines,
+    } = script;
+    let words = rest_of(front.tokens.as_slice());
+    let option = option_line(alloc, options.as_slice(), number, words, front.end)?;
+    behind(front)?;
+    if options.push(option).is_err() {
+        return Err(ParseFault::NoMemory);
+    }
+    Ok(Script {
+        tables,
+        options,
+        lines,
+    })
 }
 
 #[tactic(auto, unfolding(crate::specs::Script::with_body))]
@@ -123,13 +183,21 @@ fn with_body(
     requires { IsLine front.now.tokens front.now.end }
     ensures { Gives wants result (spec.with_body script number front.now) }
 {
-    let Script { tables, mut lines } = script;
+    let Script {
+        tables,
+        options,
+        mut lines,
+    } = script;
     let what = body(alloc, front.tokens.as_slice(), front.end)?;
     behind(front)?;
     if lines.push(ScriptLine { line: number, what }).is_err() {
         return Err(ParseFault::NoMemory);
     }
-    Ok(Script { tables, lines })
+    Ok(Script {
+        tables,
+        options,
+        lines,
+    })
 }
 
 /// The script with one more line, or the place of the line's first fault.
@@ -152,9 +220,9 @@ pub fn with_line(
     let Ok(front) = legible_front(alloc, line, long) else {
         return Err(ParseFault::NoMemory);
     };
-    if is_header(script.lines.as_slice(), front.tokens.as_slice()) {
-        with_table(alloc, script, number, &front)
-    } else {
-        with_body(alloc, script, number, &front)
+    match kind_of(script.lines.as_slice(), front.tokens.as_slice()) {
+        Kind::Table => with_table(alloc, script, number, &front),
+        Kind::Option => with_option(alloc, script, number, &front),
+        Kind::Body => with_body(alloc, script, number, &front),
     }
 }

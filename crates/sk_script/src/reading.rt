@@ -1,17 +1,20 @@
 //! A script, line by line.
 
-ghost use Rattle.std.specs.Prelude.{◌≡◌, ◌+◌, ◌≤◌, ◌<◌, [], ◌∷◌, length, map, IfSome, IfNone, IfOk, take};
+ghost use Rattle.std.specs.Prelude.{◌≡◌, ◌+◌, ◌≤◌, ◌<◌, [], ◌∷◌, length, map, IfSome, IfNone, IfOk, take, true};
 ghost use Rattle.std.specs.Option.{option_copied};
-ghost use Rattle.std.specs.List.{prefix_len};
+ghost use Rattle.std.specs.List.{prefix_len, AllByRecursion};
 ghost use Rattle.sk_rows.specs.Memory.{Gives};
 ghost use Rattle.sk_script.specs.Faults.{IsAnswer};
 ghost use Rattle.sk_script.specs.Limits.{longest_script};
+ghost use Rattle.sk_script.specs.Options.{CanSet};
+ghost use Rattle.sk_script.specs.Rules.{IsSession, session_in};
 ghost use Rattle.sk_script.specs.Script as spec;
 ghost use Rattle.sk_script.specs.Tables.{CanAdd};
+ghost use Rattle.sk_script.specs.Texts.{says_short};
 
 use crate::limits::LONGEST_SCRIPT;
 use crate::line::with_line;
-use crate::script::{Script, ScriptFault, ScriptLineList, TableLineList};
+use crate::script::{OptionLineList, Script, ScriptFault, ScriptLineList, TableLineList};
 use sk_parse::ParseFault;
 use std::alloc::Global;
 
@@ -102,6 +105,7 @@ fn read_lines(alloc: Global, bytes: &[u8], long: bool) -> Result<Script, ScriptF
     let mut rest = bytes;
     let mut script = Script {
         tables: TableLineList::new(alloc),
+        options: OptionLineList::new(alloc),
         lines: ScriptLineList::new(alloc),
     };
     let mut number: u32 = 1;
@@ -141,7 +145,7 @@ fn read_front(alloc: Global, bytes: &[u8]) -> Result<Script, ScriptFault>
 ///
 /// Faults are a token that does not fit, passes a limit or repeats a name, a byte that is not allowed, a text that is
 /// not ended, the end of a line where more was to come, and what passes the limits of a line or of the script.
-#[tactic(auto, using(crate::proofs::Takings::given_tables, crate::proofs::ScriptFaults::answered))]
+#[tactic(auto, using(crate::proofs::Takings::given_tables, crate::proofs::Takings::given_options, crate::proofs::Saying::given_sessions, crate::proofs::Saying::given_texts, crate::proofs::ScriptFaults::answered))]
 pub fn read_script(alloc: Global, bytes: &[u8]) -> Result<Script, ScriptFault>
     ensures exact { Gives spec.wants result (spec.script_of bytes.now) }
 
@@ -150,6 +154,15 @@ pub fn read_script(alloc: Global, bytes: &[u8]) -> Result<Script, ScriptFault>
 
     // A catalog takes its tables, one after another.
     ensures tables { IfOk result (λ script. CanAdd [] (map (λ l. l.table) script.tables)) }
+
+    // Each option that it sets is in its range, and none is set twice.
+    ensures options { IfOk result (λ script. CanSet [] script.options) }
+
+    // Each line behind the headers is of a session from 1 to 64.
+    ensures sessions { IfOk result (λ script. AllByRecursion (λ l. IsSession (session_in l.what)) script.lines) }
+
+    // Each text that a statement may write has at most 255 bytes.
+    ensures texts { IfOk result (λ script. AllByRecursion (λ l. says_short l.what ≡ true) script.lines) }
 {
     read_front(alloc, bytes)
 }

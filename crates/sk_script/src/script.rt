@@ -1,6 +1,6 @@
 //! What a script is.
 
-use sk_rows::{List, NoMemory, Statement, Table};
+use sk_rows::{List, NoMemory, Statement, Table, Txt};
 
 /// A line that makes a table.
 #[derive(Drop)]
@@ -14,7 +14,21 @@ pub struct TableLine {
 /// Lines that make tables, in the order of the script.
 pub type TableLineList = List<TableLine>;
 
-/// What a line behind the tables says.
+/// A line that sets an option.
+#[derive(Drop)]
+pub struct OptionLine {
+    /// The line's number in the script, counted from 1.
+    pub line: u32,
+    /// The option's name.
+    pub name: Txt,
+    /// The number that it is set to.
+    pub number: u32,
+}
+
+/// Lines that set options, in the order of the script.
+pub type OptionLineList = List<OptionLine>;
+
+/// What a line behind the tables and the options says.
 #[derive(Drop)]
 pub enum Line {
     /// A session says a statement.
@@ -24,9 +38,14 @@ pub enum Line {
         /// What it says.
         statement: Statement,
     },
+    /// A session takes one step of its commit.
+    Step {
+        /// The session's number.
+        session: u16,
+    },
 }
 
-/// A line behind the tables.
+/// A line behind the tables and the options.
 #[derive(Drop)]
 pub struct ScriptLine {
     /// The line's number in the script, counted from 1.
@@ -35,7 +54,7 @@ pub struct ScriptLine {
     pub what: Line,
 }
 
-/// Lines behind the tables, in the order of the script.
+/// Lines behind the tables and the options, in the order of the script.
 pub type ScriptLineList = List<ScriptLine>;
 
 /// A script. Lines that are passed over are left out of it, and counted in the numbers of the others.
@@ -43,7 +62,9 @@ pub type ScriptLineList = List<ScriptLine>;
 pub struct Script {
     /// Its tables.
     pub tables: TableLineList,
-    /// Its lines behind the tables.
+    /// The options that it sets.
+    pub options: OptionLineList,
+    /// Its lines behind these.
     pub lines: ScriptLineList,
 }
 

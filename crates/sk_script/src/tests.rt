@@ -1,4 +1,4 @@
-use crate::{Line, Script, ScriptFault, place, read_script};
+use crate::{Line, Script, ScriptFault, Settings, place, read_script};
 use sk_rows::{Sort, Statement};
 use std::test::Fail;
 
@@ -31,9 +31,9 @@ fn faults(rt: HostRuntime) {
         (b"1: SELECT * FROM ;", 1, 18),
         (b"1:", 1, 3),
         (b"1 COMMIT", 1, 3),
-        (b"\n2: COMMIT", 2, 1),
-        (b"1: STEP", 1, 4),
         (b"FLUSH", 1, 1),
+        (b"CHECKPOINT", 1, 1),
+        (b"STOP", 1, 1),
         // the line of a table
         (
             b"TABLE a MEMORY id INT, v INT\nTABLE a STORAGE id INT",
@@ -52,6 +52,70 @@ fn faults(rt: HostRuntime) {
         (b"1: COM\rMIT\n", 1, 4),
         (b"1: COMMIT\r\r\n", 1, 10),
         (b"1: COMMIT\r\n1: X\n1: Y", 2, 4),
+    ];
+    for row in rows.iter() {
+        assert!(rt; fault(&rt, row.0) == (row.1, row.2));
+    }
+}
+
+#[test]
+fn faults_of_sessions(rt: HostRuntime) {
+    let rows: [(&[u8], u32, u32); 14] = [
+        (b"0: COMMIT", 1, 1),
+        (b"1: COMMIT", 0, 0),
+        (b"64: COMMIT", 0, 0),
+        (b"065: COMMIT", 1, 1),
+        (b"64: BEGIN\n65: COMMIT", 2, 1),
+        (b"18446744073709551615: COMMIT", 1, 1),
+        (b"7: STEP", 0, 0),
+        (b"7: sTEp ;", 0, 0),
+        (b"7: STEP x", 1, 9),
+        (b"7: STEP STEP", 1, 9),
+        (b"7: STEP ; x", 1, 11),
+        (b"STEP", 1, 1),
+        (b"65: STEP", 1, 1),
+        (b"1: SELECT * FROM step", 1, 18),
+    ];
+    for row in rows.iter() {
+        assert!(rt; fault(&rt, row.0) == (row.1, row.2));
+    }
+}
+
+#[test]
+fn faults_of_options(rt: HostRuntime) {
+    let rows: [(&[u8], u32, u32); 24] = [
+        (b"SET partitions 2\nSET points 4096", 0, 0),
+        (b"SET partitions 1", 1, 16),
+        (b"SET partitions 65", 1, 16),
+        (b"SET points 1", 1, 12),
+        (b"SET points 4097", 1, 12),
+        (b"SET frames 0", 1, 12),
+        (b"SET frames 65", 1, 12),
+        (b"SET logmax 31", 1, 12),
+        (b"SET logmax 2147483648", 1, 12),
+        (b"SET startm 2147483647", 1, 12),
+        (b"SET starts 2147483647", 1, 12),
+        (b"SET starts 4294967296", 1, 12),
+        (
+            b"set startm 2147483646\nSET starts 2147483646\nSET logmax 2147483647",
+            0,
+            0,
+        ),
+        (
+            b"SET frames 00064\nTABLE a MEMORY id INT\nSET logmax 32",
+            0,
+            0,
+        ),
+        (b"SET frames 1\nSET frames 1", 2, 5),
+        (b"SET Frames 1", 1, 5),
+        (b"SET rooms 99", 1, 5),
+        (b"SET", 1, 4),
+        (b"SET frames", 1, 11),
+        (b"SET frames 'x'", 1, 12),
+        (b"SET frames 1;", 1, 13),
+        (b"SET frames 1 \x01", 1, 14),
+        (b"1: COMMIT\nSET frames 1", 2, 1),
+        (b"TABLE frames MEMORY points INT", 0, 0),
     ];
     for row in rows.iter() {
         assert!(rt; fault(&rt, row.0) == (row.1, row.2));
@@ -148,6 +212,36 @@ fn scripts(rt: HostRuntime) {
         Ok(script) => assert!(rt; script.tables.is_empty() && script.lines.is_empty()),
         Err(_) => assert!(rt; false),
     }
+}
+
+#[test]
+fn options(rt: HostRuntime) {
+    let text: &[u8] = b"SET points 9\nTABLE a MEMORY id INT\n\nSET startm 7\n3: STEP\n64: STEP;";
+    let Ok(script) = read_script(rt.alloc(), text) else {
+        assert!(rt; false);
+        return;
+    };
+    let [points, startm] = script.options.as_slice() else {
+        assert!(rt; false);
+        return;
+    };
+    assert!(rt; points.line == 1 && points.name.as_slice() == b"points".as_slice());
+    assert!(rt; startm.line == 4 && startm.number == 7);
+    let [step, last] = script.lines.as_slice() else {
+        assert!(rt; false);
+        return;
+    };
+    assert!(rt; step.line == 5 && matches!(step.what, Line::Step { session: 3 }));
+    assert!(rt; last.line == 6 && matches!(last.what, Line::Step { session: 64 }));
+    let wanted = Settings {
+        partitions: 8,
+        points: 9,
+        frames: 32,
+        logmax: 2_147_483_647,
+        startm: 7,
+        starts: 0,
+    };
+    assert!(rt; script.settings() == wanted);
 }
 
 #[test]
