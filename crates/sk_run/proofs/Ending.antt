@@ -1,0 +1,193 @@
+-- What a run hands out is of one run of sessions, and of one database.
+use Rattle.std.specs.Prelude.{◌≡◌, ℕ, ◌+◌, zero, suc, List, [], ◌∷◌, ◌++◌, true, length, map}
+use Rattle.std.specs.List.{flat_map}
+use Rattle.std.proofs.Common.{refl, sym, ap, subst, ◌∙◌}
+use Rattle.std.proofs.lemmas.List.{map-append, length-map}
+use Rattle.sk_rows.specs.declared.value.Value.{Value}
+use Rattle.sk_rows.specs.declared.table.Table.{Table}
+use Rattle.sk_model.specs.declared.engine.EngineName.{EngineName}
+use Rattle.sk_model.specs.declared.engine.EngineName.TheVariants.{Mem, Store}
+use Rattle.sk_model.specs.declared.commit.Commit.{Commit}
+use Rattle.sk_model.specs.declared.point.Point.{Point}
+use Rattle.sk_model.specs.declared.record.Record.{Record}
+use Rattle.sk_model.specs.declared.call.Entry.{Entry}
+use Rattle.sk_model.specs.Database.{RowOf, KeyedRows, Tables, table_of}
+use Rattle.sk_model.specs.Engine.{EngineTable}
+use Rattle.sk_model.specs.Places.{place}
+use Rattle.sk_model.specs.Records.{InTurn, OneDatabase}
+use Rattle.sk_model.specs.Spoken.{Outside}
+use Rattle.sk_model.specs.Talks.{Talk}
+use Rattle.sk_model.proofs.Lists.{Each}
+use Rattle.sk_weave.specs.Reads.{Run as CommitRun, order_of}
+use Rattle.sk_weave.specs.Weave.{weave}
+use Rattle.sk_core.specs.Joining.{TablesFit, all_transactions}
+use Rattle.sk_core.specs.Kept.{Account, Session as Spoken, Play, transaction_in, transactions_in, share_in, records_in, traces_in, IsPlay}
+use Rattle.sk_core.specs.Traces.{run_of}
+use Rattle.sk_core.specs.Headline.{place_of}
+use Rattle.sk_mem.specs.declared.engine.MemEngine.{MemEngine}
+use Rattle.sk_store.specs.declared.engine.StoreEngine.{StoreEngine}
+use Rattle.sk_store.specs.Begun.{no_rows}
+use Rattle.sk_store.proofs.Beginning.{none_sorted}
+use Rattle.sk_session.specs.declared.live.At.{At}
+use Rattle.sk_session.specs.declared.live.At.TheVariants as at
+use Rattle.sk_session.specs.EachTalk.{EachTalks, SessionTalks, IsBetween}
+use Rattle.sk_session.specs.Moving.{records_at}
+use Rattle.sk_session.specs.Starting.{records_now}
+use Rattle.sk_session.specs.SoFar.{so_far}
+use Rattle.sk_session.specs.Printed.{Prints, said_in, seat_at}
+use Rattle.sk_session.specs.Common.{Common}
+use Rattle.sk_session.proofs.Recorded.{talks_now}
+use Rattle.sk_shared.specs.Shared.{Stands}
+use Rattle.sk_shared.specs.Finished.{IsLeft, AreDecided, CanWeave, run_commits}
+use Rattle.sk_shared.specs.declared.finished.Finished.{Finished}
+use Rattle.sk_kept.specs.Sessions.{Player}
+use Rattle.sk_kept.specs.Ended.{accounts_of, session_of, play_of, AreShort, IsPaused}
+use Rattle.sk_kept.proofs.Ended.{paused_is_one}
+use Rattle.sk_told.proofs.Told.{told_is_order}
+use Rattle.sk_run.specs.Told.{RunLine, IsShort, AreTold, AreSaid, lines_of}
+use Rattle.sk_run.specs.State.{RunState}
+use Rattle.sk_run.specs.Kept.{HasKept, IsKept}
+use Rattle.sk_run.specs.Ended.{AreSteps, joined, HasEnded}
+use Rattle.sk_run.specs.declared.ended.Ended.{Ended}
+use Rattle.sk_run.proofs.Lines.{lines_short, prints_short, records_short}
+
+-- ---- tables without rows
+
+no_table : (catalog : List Table) (t : ℕ) → table_of (no_rows catalog) t ≡ []
+no_table [] t = refl
+no_table (c ∷ cs) zero = refl
+no_table (c ∷ cs) (suc t) = no_table cs t
+
+none_fit : (catalog : List Table) → TablesFit catalog (no_rows catalog)
+none_fit catalog t = subst (Each _) (sym (no_table catalog t)) tt
+
+no_rows_length : (catalog : List Table) → length (no_rows catalog) ≡ length catalog
+no_rows_length [] = refl
+no_rows_length (c ∷ cs) = ap suc (no_rows_length cs)
+
+-- ---- one session
+
+-- between two lines the records are as they would be handed out
+so_far_now : (records : List Record) (there : At) → IsBetween there → so_far records there ≡ records_at records there
+so_far_now records at.Outside b = refl
+so_far_now records (at.Inside live) b = refl
+so_far_now records (at.Stepping live c) b = refl
+so_far_now records at.Ended b = refl
+so_far_now records (at.Asking live doing) b = absurd b
+
+-- each record has its account
+all_kept : (catalog : List Table) (number k : ℕ) (rs : List Record) (ts : List Talk) → EachTalks catalog number k rs ts → rs ≡ map (λ (a : Account). a.kept) (accounts_of rs ts)
+all_kept catalog number k [] [] h = refl
+all_kept catalog number k [] (t ∷ ts) h = absurd h
+all_kept catalog number k (r ∷ rs) [] h = absurd h
+all_kept catalog number k (r ∷ rs) (t ∷ ts) h = ap (λ (rest : List Record). r ∷ rest) (all_kept catalog number (k + 1) rs ts h.2)
+
+-- ---- all sessions
+
+are_kept : (catalog : List Table) (ps : List Player) → Each (λ (p : Player). SessionTalks catalog p.session p.talks) ps → Each (λ (p : Player). IsBetween p.session.at) ps
+    → joined (map records_now (map (λ (p : Player). p.session) ps)) ≡ flat_map (λ (s : Spoken). map (λ (a : Account). a.kept) s.accounts) (map session_of ps)
+are_kept catalog [] t b = refl
+are_kept catalog (p ∷ ps) t b =
+    ap (λ (rs : List Record). rs ++ joined (map records_now (map (λ (p : Player). p.session) ps)))
+    (all_kept catalog p.session.number 1 (records_now p.session) p.talks (talks_now p.session (records_now p.session) refl catalog p.talks t.0 b.0))
+    ∙ ap (λ (rs : List Record). map (λ (a : Account). a.kept) (accounts_of (records_now p.session) p.talks) ++ rs) (are_kept catalog ps t.1 b.1)
+
+-- what each was told is what its records say
+are_said : (k : ℕ) (lines : List RunLine) (ps : List Player) → Each (λ (p : Player). IsBetween p.session.at) ps → AreTold k lines (map (λ (p : Player). p.session) ps) → AreSaid k lines (map records_now (map (λ (p : Player). p.session) ps))
+are_said k lines [] b h = tt
+are_said k lines (p ∷ ps) b h = (
+  (seat_at p.session.at, subst (λ rs. Prints Outside (lines_of k lines) (said_in rs) (seat_at p.session.at)) (so_far_now p.session.records p.session.at b.0) h.1.prints),
+  are_said (k + 1) lines ps b.1 h.2,
+)
+
+are_short : (k : ℕ) (lines : List RunLine) (ps : List Player) → Each (λ (l : RunLine). IsShort l.line.0) lines → Each (λ (p : Player). IsBetween p.session.at) ps → AreTold k lines (map (λ (p : Player). p.session) ps)
+    → Each (λ (p : Player). Each AreShort (records_now p.session)) ps
+are_short k lines [] s b h = tt
+are_short k lines (p ∷ ps) s b h = (
+  records_short (records_now p.session) (prints_short Outside (lines_of k lines) (said_in (records_now p.session)) (seat_at p.session.at) (lines_short k lines s)
+      (subst (λ rs. Prints Outside (lines_of k lines) (said_in rs) (seat_at p.session.at)) (so_far_now p.session.records p.session.at b.0) h.1.prints)),
+  are_short (k + 1) lines ps s b.1 h.2,
+)
+
+-- the places of the transactions are those of the records
+places_in : (run : CommitRun) (js : EngineName → List Entry) (ss : List Spoken) → map (place_of run) (all_transactions (map (share_in js) ss)) ≡ map (λ (r : Record). place (order_of run) r.mem r.store) (flat_map (λ (s : Spoken). map (λ (a : Account). a.kept) s.accounts) ss)
+places_in run js [] = refl
+places_in run js (s ∷ ss) =
+    map-append (place_of run) (transactions_in s) (all_transactions (map (share_in js) ss))
+    ∙ ap (λ (xs : List ℕ). xs ++ map (place_of run) (all_transactions (map (share_in js) ss))) (of_one s.accounts)
+    ∙ ap (λ (xs : List ℕ). map (λ (r : Record). place (order_of run) r.mem r.store) (map (λ (a : Account). a.kept) s.accounts) ++ xs) (places_in run js ss)
+    ∙ sym (map-append (λ (r : Record). place (order_of run) r.mem r.store) (map (λ (a : Account). a.kept) s.accounts) (flat_map (λ (s : Spoken). map (λ (a : Account). a.kept) s.accounts) ss))
+  where
+    of_one : (accounts : List Account) → map (place_of run) (map transaction_in accounts) ≡ map (λ (r : Record). place (order_of run) r.mem r.store) (map (λ (a : Account). a.kept) accounts)
+    of_one [] = refl
+    of_one (a ∷ rest) = ap (λ (xs : List ℕ). place (order_of run) a.kept.mem a.kept.store ∷ xs) (of_one rest)
+
+module _ (mem : MemEngine → EngineTable → List Entry → Type 0) (store : StoreEngine → EngineTable → List Entry → Type 0) where
+  -- between two lines of all its sessions
+  pub paused : (lines : List RunLine) (x : RunState) (k : HasKept mem store lines x) → IsPaused x.catalog (no_rows x.catalog) k.first k.points k.common k.players
+  paused lines x k = record {
+    tables = k.tables;
+    opening = no_rows_length x.catalog;
+    fit = none_fit x.catalog;
+    sorted = none_sorted x.catalog;
+    begun = k.begun;
+    run = k.run;
+    between = k.between;
+    texts = are_short 1 lines k.players k.short k.between (subst (AreTold 1 lines) k.sessions_are k.told);
+  }
+
+  abbrev played : (lines : List RunLine) (x : RunState) → HasKept mem store lines x → Play
+  played lines x k = play_of x.catalog (no_rows x.catalog) k.first k.points k.common k.players
+
+  -- what its engines tell may be woven
+  pub can_weave : (x : RunState) (finished : Finished) → IsKept mem store x → ((c : Common) → Stands mem store x.shared c → IsLeft mem store finished c) → CanWeave mem store finished
+  can_weave x finished (lines, k) left = (k.common, left k.common k.stood, λ decided. (told_is_order x.catalog (no_rows x.catalog) k.first k.points k.common k.players (paused lines x k) decided).weavable)
+
+  -- and its list rises
+  pub in_turn : (x : RunState) (finished : Finished) (order : List Commit) → IsKept mem store x → ((c : Common) → Stands mem store x.shared c → IsLeft mem store finished c)
+      → ((c : Common) → IsLeft mem store finished c → order ≡ weave c.regs.points (run_commits Mem c) (run_commits Store c)) → ((c : Common) → IsLeft mem store finished c → AreDecided c)
+      → InTurn (λ (c : Commit). c.mem) order × InTurn (λ (c : Commit). c.store) order
+  in_turn x finished order (lines, k) left woven decided =
+      let here : IsLeft mem store finished k.common = left k.common k.stood in
+      let one : IsPlay (played lines x k) × OneDatabase x.catalog (no_rows x.catalog) (order_of (run_of (traces_in (played lines x k)))) (map (place_of (run_of (traces_in (played lines x k)))) (traces_in (played lines x k)).transactions) (records_in (played lines x k)) =
+      paused_is_one x.catalog (no_rows x.catalog) k.first k.points k.common k.players (paused lines x k) in
+      let is : order_of (run_of (traces_in (played lines x k))) ≡ order =
+      sym (woven k.common here ∙ (told_is_order x.catalog (no_rows x.catalog) k.first k.points k.common k.players (paused lines x k) (decided k.common here)).woven) in
+      (subst (InTurn (λ (c : Commit). c.mem)) is one.1.by_mem, subst (InTurn (λ (c : Commit). c.store)) is one.1.by_store)
+
+  -- so its list is that of its sessions, and what it hands out is of one database
+  pub ended : (lines steps : List RunLine) (x : RunState) (finished : Finished) (y : Ended) (parts : List (List Record)) → AreSteps steps → HasKept mem store (lines ++ steps) x
+      → ((c : Common) → Stands mem store x.shared c → IsLeft mem store finished c) → ((c : Common) → IsLeft mem store finished c → y.order ≡ weave c.regs.points (run_commits Mem c) (run_commits Store c))
+      → ((c : Common) → IsLeft mem store finished c → AreDecided c) → parts ≡ map records_now x.sessions → y.records ≡ joined parts → y.places ≡ map (λ (r : Record). place y.order r.mem r.store) y.records
+      → y.mem ≡ finished.mem_journal → y.store ≡ finished.store_journal → y.points ≡ finished.points → HasEnded x.catalog lines y
+  ended lines steps x finished y parts are_steps k left woven decided parts_are records places mem_is store_is points_are =
+      let told : AreTold 1 (lines ++ steps) (map (λ (p : Player). p.session) k.players) = subst (AreTold 1 (lines ++ steps)) k.sessions_are k.told in
+      let play : Play = played (lines ++ steps) x k in
+      let run : CommitRun = run_of (traces_in play) in
+      let here : IsLeft mem store finished k.common = left k.common k.stood in
+      let one : IsPlay play × OneDatabase x.catalog (no_rows x.catalog) (order_of run) (map (place_of run) (traces_in play).transactions) (records_in play) =
+      paused_is_one x.catalog (no_rows x.catalog) k.first k.points k.common k.players (paused (lines ++ steps) x k) in
+      let handed : parts ≡ map records_now (map (λ (p : Player). p.session) k.players) = parts_are ∙ ap (map records_now) k.sessions_are in
+      let are : y.records ≡ records_in play = records ∙ ap joined handed ∙ are_kept x.catalog k.players k.run.talks k.between in
+      let order : y.order ≡ order_of run = woven k.common here ∙ (told_is_order x.catalog (no_rows x.catalog) k.first k.points k.common k.players (paused (lines ++ steps) x k) (decided k.common here)).woven in
+      let at : map (place_of run) (traces_in play).transactions ≡ y.places =
+      places_in run play.journals play.sessions ∙ ap (λ (cs : List Commit). map (λ (r : Record). place cs r.mem r.store) (records_in play)) (sym order) ∙ ap (λ (rs : List Record). map (λ (r : Record). place y.order r.mem r.store) rs) (sym are) ∙ sym places in
+      record {
+        play = play;
+        is_play = one.0;
+        catalog_is = refl;
+        rows_are = refl;
+        mem_is = mem_is ∙ here.mem_entered;
+        store_is = store_is ∙ here.store_entered;
+        points_are = points_are ∙ here.pointed ∙ k.run.running.held.points_are;
+        records_are = are;
+        order_is = order;
+        one = subst (OneDatabase x.catalog (no_rows x.catalog) y.order y.places) (sym are)
+            (subst (λ ps. OneDatabase x.catalog (no_rows x.catalog) y.order ps (records_in play)) at
+            (subst (λ cs. OneDatabase x.catalog (no_rows x.catalog) cs (map (place_of run) (traces_in play).transactions) (records_in play)) (sym order) one.1));
+        steps = steps;
+        are_steps = are_steps;
+        parts = parts;
+        are_parts = records;
+        said = subst (AreSaid 1 (lines ++ steps)) (sym handed) (are_said 1 (lines ++ steps) k.players k.between told);
+      }

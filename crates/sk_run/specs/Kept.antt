@@ -1,0 +1,55 @@
+-- What a run has kept of the lines that were told.
+use Rattle.std.specs.Prelude.{◌≡◌, ◌<◌, ◌≤◌, ℕ, List, [], ◌∷◌, ◌++◌, Option, length, map}
+use Rattle.std.specs.List.{AllByRecursion}
+use Rattle.sk_rows.specs.declared.statement.Statement.{Statement}
+use Rattle.sk_rows.specs.Catalog.{IsCatalog}
+use Rattle.sk_model.specs.declared.engine.EngineName.{EngineName}
+use Rattle.sk_model.specs.declared.point.Point.{Point}
+use Rattle.sk_model.specs.declared.reply.Reply.{Reply}
+use Rattle.sk_model.specs.declared.call.Entry.{Entry}
+use Rattle.sk_model.specs.Engine.{EngineTable, engine_at}
+use Rattle.sk_weave.specs.Reads.{number_at}
+use Rattle.sk_mem.specs.declared.engine.MemEngine.{MemEngine}
+use Rattle.sk_store.specs.declared.engine.StoreEngine.{StoreEngine}
+use Rattle.sk_store.specs.Begun.{no_rows}
+use Rattle.sk_session.specs.EachTalk.{IsBetween}
+use Rattle.sk_session.specs.Common.{Common}
+use Rattle.sk_shared.specs.Shared.{Stands}
+use Rattle.sk_kept.specs.Sessions.{Player, IsRun}
+use Rattle.sk_run.specs.Told.{RunLine, AreShort, AreTold, AreRefused}
+use Rattle.sk_run.specs.State.{RunState}
+
+-- the session is one of the run
+abbrev pub IsKnown : RunState → ℕ → Type 0
+IsKnown x number = (1 ≤ number) × (number ≤ length x.sessions)
+
+module _ (mem : MemEngine → EngineTable → List Entry → Type 0) (store : StoreEngine → EngineTable → List Entry → Type 0) where
+  -- These lines were told, and the run has kept all that a run of sessions keeps: what they share stands for this, the sessions with the calls
+  -- of their transactions are a run over it which began without rows, and each is between two lines, of which its records say what was told.
+  pub record HasKept (lines : List RunLine) (x : RunState) : Type 0 where
+    pub tables : IsCatalog x.catalog
+    pub few : length x.sessions < 65536
+    pub common : Common
+    pub stood : Stands mem store x.shared common
+    pub first : Point
+    pub begun : (name : EngineName) → common.first name ≡ engine_at name x.catalog (no_rows x.catalog) (number_at name first)
+    pub points : List Point
+    pub players : List Player
+    pub sessions_are : x.sessions ≡ map (λ (p : Player). p.session) players
+    pub run : IsRun x.catalog first points common players
+    pub between : AllByRecursion (λ (p : Player). IsBetween p.session.at) players
+    pub told : AreTold 1 lines x.sessions
+    pub short : AreShort lines
+
+  -- whatever the lines so far were: with this one more it has kept them
+  abbrev pub KeepsOn : RunState → ℕ → Option Statement → RunState → Reply → Type 0
+  KeepsOn old number s new reply = (lines : List RunLine) → HasKept lines old → HasKept (lines ++ record { session = number; line = (s, reply) } ∷ []) new
+
+  -- and what the table of refusals refuses was answered so, of this line too
+  abbrev pub RefusesOn : RunState → ℕ → Option Statement → RunState → Reply → Type 0
+  RefusesOn old number s new reply =
+      (lines : List RunLine) → HasKept lines old → AreRefused old.catalog 1 lines old.sessions → AreRefused old.catalog 1 (lines ++ record { session = number; line = (s, reply) } ∷ []) new.sessions
+
+  -- it has kept some lines
+  abbrev pub IsKept : RunState → Type 0
+  IsKept x = (lines : List RunLine) × HasKept lines x

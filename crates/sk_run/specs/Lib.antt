@@ -1,0 +1,4 @@
+pub mod Told
+pub mod State
+pub mod Kept
+pub mod Ended

@@ -1,0 +1,241 @@
+//! A run of sessions on one thread.
+
+ghost use Rattle.std.specs.Prelude.{◌≡◌, ◌++◌, [], IfOk, None, length, map};
+ghost use Rattle.std.specs.List.{range_with_len};
+ghost use Rattle.std.specs.Option.{option_copied};
+ghost use Rattle.sk_weave.specs.RegistryLaws.{CanStart};
+ghost use Rattle.sk_session.specs.Starting.{fresh, records_now};
+ghost use Rattle.sk_run.specs.Told.{IsShort, AreRefused};
+ghost use Rattle.sk_run.specs.Kept.{IsKnown, HasKept, KeepsOn, RefusesOn};
+ghost use Rattle.sk_run.specs.Ended.{joined, Settles, HandsOut, Ends};
+
+use crate::ended::Ended;
+use sk_chain::Engine;
+use sk_mem::MemEngine;
+use sk_model::{ErrWord, Point, RecordList, Reply};
+use sk_places::places;
+use sk_rows::{Catalog, NoMemory, Statement};
+use sk_session::{Session, Unanswered, converse, leave_with};
+use sk_shared::{Finished, OrderFault, Shared};
+use sk_store::StoreEngine;
+use std::alloc::Global;
+use std::marker::Model;
+
+/// The steps of the longest commit.
+const MOST_STEPS: u32 = 7;
+
+/// Sessions, numbered from 1 on, over both engines and one registry.
+///
+/// Contracts see its tables, its sessions and what they share.
+#[derive(Drop)]
+pub struct Run {
+    catalog: Catalog,
+    sessions: Vec<Session>,
+    shared: Shared,
+}
+
+impl Model for Run {
+    ghost use Rattle.std.specs.Coded.{codes};
+    ghost use Rattle.sk_run.specs.State.{RunState};
+    ghost use Rattle.sk_run.specs.Kept.{IsKept};
+    ghost use Rattle.sk_session.specs.contracts.session.Session as session_row;
+    ghost use Rattle.sk_shared.specs.contracts.shared.Shared as shared_row;
+
+    ghost Value = { RunState };
+
+    ghost coded = { Prim.hlevel (codes, session_row.the_row.coded, shared_row.the_row.coded) };
+
+    ghost view = { λ run. record { catalog = run.catalog; sessions = run.sessions.items; shared = run.shared } };
+
+    ghost invariant = { λ run. IsKept ⟦<MemEngine as Engine>⟧.stands ⟦<StoreEngine as Engine>⟧.stands (record { catalog = run.catalog; sessions = run.sessions.items; shared = run.shared }) };
+}
+
+/// So many sessions that have had no transaction.
+fn fresh_sessions(alloc: Global, count: u16) -> Result<Vec<Session>, NoMemory>
+    ensures { IfOk result (λ all. all.items ≡ map fresh (range_with_len 1 count)) }
+{
+    let mut all = Vec::new(alloc);
+    for before in 0..count {
+        all.push(Session::new(alloc, before + 1))?;
+    }
+    Ok(all)
+}
+
+/// These records, and others behind them.
+fn with_records(all: RecordList, more: RecordList) -> Result<RecordList, NoMemory>
+    ensures { IfOk result (λ both. both ≡ all ++ more) }
+{
+    let mut all = all;
+    for record in more.into_vec() {
+        all.push(record)?;
+    }
+    Ok(all)
+}
+
+/// The records of these sessions, one session after another.
+fn records_of(alloc: Global, sessions: Vec<Session>) -> Result<RecordList, NoMemory>
+    ensures { IfOk result (λ all. all ≡ joined (map records_now sessions.items)) }
+{
+    let mut all = RecordList::new(alloc);
+    for session in sessions {
+        all = with_records(all, session.into_records())?;
+    }
+    Ok(all)
+}
+
+impl Run {
+    /// A run that begins without rows, with so many sessions. Its registry has so many partitions of so many points each, and the numbers of both engines begin at this selection.
+    pub fn new(
+        alloc: Global,
+        catalog: Catalog,
+        partitions: u32,
+        size: u32,
+        start: Point,
+        sessions: u16,
+    ) -> Result<Run, NoMemory>
+        requires { CanStart partitions size start }
+        ensures kept { IfOk result (λ x. HasKept ⟦<MemEngine as Engine>⟧.stands ⟦<StoreEngine as Engine>⟧.stands [] x) }
+        ensures refused { IfOk result (λ x. AreRefused x.catalog 1 [] x.sessions) }
+        ensures tables { IfOk result (λ x. x.catalog ≡ catalog) }
+        ensures sessions { IfOk result (λ x. length x.sessions ≡ sessions) }
+    {
+        let shared = Shared::new(alloc, &catalog, partitions, size, start)?;
+        let sessions = fresh_sessions(alloc, sessions)?;
+        Ok(Run {
+            catalog,
+            sessions,
+            shared,
+        })
+    }
+
+    /// Plays a line of this session: a statement, or STEP where there is none. Where a call of it could not be answered the run is at its end.
+    pub fn line(
+        self,
+        alloc: Global,
+        session: u16,
+        statement: Option<&Statement>,
+    ) -> Result<(Run, Reply), Unanswered>
+        requires known { IsKnown self session }
+        requires short { IsShort (option_copied statement) }
+        ensures kept { IfOk result (λ all. KeepsOn ⟦<MemEngine as Engine>⟧.stands ⟦<StoreEngine as Engine>⟧.stands self session (option_copied statement.entry) all.0 all.1) }
+        ensures refused { IfOk result (λ all. RefusesOn ⟦<MemEngine as Engine>⟧.stands ⟦<StoreEngine as Engine>⟧.stands self session (option_copied statement.entry) all.0 all.1) }
+        ensures tables { IfOk result (λ all. all.0.catalog ≡ self.catalog) }
+        ensures sessions { IfOk result (λ all. length all.0.sessions ≡ length self.sessions) }
+    {
+        let Run {
+            catalog,
+            mut sessions,
+            mut shared,
+        } = self;
+        let at = session as usize - 1;
+        let reply = match sessions.get_mut(at) {
+            Some(speaker) => converse(alloc, speaker, &catalog, &mut shared, statement)?,
+            None => return Err(Unanswered),
+        };
+        let run = Run {
+            catalog,
+            sessions,
+            shared,
+        };
+        Ok((run, reply))
+    }
+
+    /// Leaves this session: a transaction that is open is rolled back. Where a commit is between two of its steps that is refused.
+    fn leave(self, alloc: Global, session: u16) -> Result<(Run, Reply), Unanswered>
+        requires { IsKnown self session }
+        ensures kept { IfOk result (λ all. KeepsOn ⟦<MemEngine as Engine>⟧.stands ⟦<StoreEngine as Engine>⟧.stands self session None all.0 all.1) }
+        ensures tables { IfOk result (λ all. all.0.catalog ≡ self.catalog) }
+        ensures sessions { IfOk result (λ all. length all.0.sessions ≡ length self.sessions) }
+    {
+        let Run {
+            catalog,
+            mut sessions,
+            mut shared,
+        } = self;
+        let at = session as usize - 1;
+        let reply = match sessions.get_mut(at) {
+            Some(speaker) => leave_with(alloc, speaker, &catalog, &mut shared)?,
+            None => return Err(Unanswered),
+        };
+        let run = Run {
+            catalog,
+            sessions,
+            shared,
+        };
+        Ok((run, reply))
+    }
+
+    /// Ends this session: a commit that is under way takes the steps that are left of it, and any other transaction is rolled back.
+    fn settle(self, alloc: Global, session: u16) -> Result<Run, Unanswered>
+        requires { IsKnown self session }
+        ensures kept { IfOk result (λ run. Settles ⟦<MemEngine as Engine>⟧.stands ⟦<StoreEngine as Engine>⟧.stands self run) }
+        ensures tables { IfOk result (λ run. run.catalog ≡ self.catalog) }
+        ensures sessions { IfOk result (λ run. length run.sessions ≡ length self.sessions) }
+    {
+        let mut run = self;
+        for _ in 0..=MOST_STEPS {
+            let (left, reply) = run.leave(alloc, session)?;
+            if !matches!(reply, Reply::Refused(ErrWord::Committing)) {
+                return Ok(left);
+            }
+            let (stepped, _) = left.line(alloc, session, None)?;
+            run = stepped;
+        }
+        Err(Unanswered)
+    }
+
+    /// Ends all sessions, by number.
+    fn settle_all(self, alloc: Global) -> Result<Run, Unanswered>
+        ensures kept { IfOk result (λ run. Settles ⟦<MemEngine as Engine>⟧.stands ⟦<StoreEngine as Engine>⟧.stands self run) }
+        ensures tables { IfOk result (λ run. run.catalog ≡ self.catalog) }
+    {
+        let count = self.sessions.len();
+        let mut run = self;
+        for before in 0..count {
+            run = run.settle(alloc, before as u16 + 1)?;
+        }
+        Ok(run)
+    }
+
+    /// Ends all sessions, and hands out what the run has come to. It is refused for memory; and where a call that ends a session could not be answered.
+    pub fn finish(self, alloc: Global) -> Result<Ended, OrderFault>
+        ensures { IfOk result (λ x. Ends ⟦<MemEngine as Engine>⟧.stands ⟦<StoreEngine as Engine>⟧.stands self x) }
+    {
+        match self.settle_all(alloc) {
+            Ok(run) => run.hand_out(alloc),
+            Err(Unanswered) => Err(OrderFault::Undecided),
+        }
+    }
+
+    /// What the run has come to.
+    fn hand_out(self, alloc: Global) -> Result<Ended, OrderFault>
+        ensures { IfOk result (λ x. HandsOut ⟦<MemEngine as Engine>⟧.stands ⟦<StoreEngine as Engine>⟧.stands self x) }
+    {
+        let Run {
+            sessions,
+            shared,
+            ..
+        } = self;
+        let records = records_of(alloc, sessions)?;
+        let mut finished = shared.into_parts();
+        let order = finished.order(alloc)?;
+        if order.len() > u32::MAX as usize {
+            return Err(OrderFault::NoMemory);
+        }
+        let places = places(alloc, order.as_slice(), records.as_slice())?;
+        let Finished {
+            mem_journal,
+            store_journal,
+            points,
+            ..
+        } = finished;
+        Ok(Ended {
+            records,
+            order,
+            places,
+            mem: mem_journal,
+            store: store_journal,
+            points,
+        })
+    }
+}
