@@ -5,16 +5,12 @@ use Rattle.std.specs.String.{string_bytes}
 use Rattle.sk_outside.specs.Causes.{Rose}
 use Rattle.sk_outside.specs.Pieces.{AppendsFront}
 use Rattle.sk_model.specs.declared.outcome.Outcome.{Outcome}
-use Rattle.sk_model.specs.Records.{OneDatabase}
-use Rattle.sk_model.specs.Spoken.{Spoken}
-use Rattle.sk_plain.specs.Standing.{opening_of}
-use Rattle.sk_plain.specs.declared.played.Played.{Played}
 use Rattle.sk_script.specs.declared.script.Script.{Script}
 use Rattle.sk_text.specs.Text.{script_fault_text}
 use Rattle.sk_serial.specs.declared.playing.Shown.{Shown}
 use Rattle.sk_serial.specs.declared.run_fault.RunFault.{RunFault}
 use Rattle.sk_serial.specs.declared.run_fault.RunFault.TheVariants as run_fault
-use Rattle.sk_serial.specs.Played.{lines_with, run_of, tables_in}
+use Rattle.sk_serial.specs.Played.{run_text}
 use Rattle.sk_serial.specs.Running.{Ran, IsPrinted, IsRefused, IsNothing, IsFinished, HasRun, Departs, Found, usage_text, read_text, memory_text}
 
 module _ (left left_now written written_now : Option (List ℕ)) (reads reads_now writes writes_now : ℕ) (outcome : Outcome) where
@@ -103,36 +99,28 @@ module _ (left left_now written written_now : Option (List ℕ)) (reads reads_no
   refused_ran run_fault.NoMemory printed nothing found read = memory_ran printed nothing
 
   pub finished_ran : (shown : Shown) → IsFinished shown outcome written written_now writes writes_now → Found left left_now (Ok shown) → Ran true left left_now written written_now reads reads_now writes writes_now outcome
-  finished_ran shown finished (script, reads_script, is) =
-      let records : outcome.records ≡ (run_of script).records = finished.records ∙ ap (λ (p : Played). p.records) is.played in
-      let order : outcome.order ≡ (run_of script).order = finished.order ∙ ap (λ (p : Played). p.order) is.played in
-      let prefixes : outcome.prefixes ≡ (run_of script).places = finished.prefixes ∙ ap (λ (p : Played). p.places) is.played in
-      let one : OneDatabase (tables_in script) (opening_of (tables_in script)) outcome.order outcome.prefixes outcome.records = rw (finished.records, finished.order, finished.prefixes) is.one in
-      let spoken : Spoken (lines_with script (run_of script).replies) outcome.records =
-      subst (λ rs. Spoken (lines_with script (run_of script).replies) rs) (sym finished.records) (subst (λ (p : Played). Spoken (lines_with script p.replies) shown.played.records) is.played is.spoken) in
-      ⊎_elim
+  finished_ran shown finished (script, reads_script, is) = ⊎_elim
       (λ (w : (outcome.status ≡ 0) × Appends written written_now (string_bytes shown.text)).
-      whole_ran w.0 (record {
-        script = script;
-        reads = reads_script;
-        records = records;
-        order = order;
-        prefixes = prefixes;
-        one = one;
-        spoken = spoken;
-        whole = λ _. subst (Appends written written_now) is.text w.1;
-        part = λ e. absurd (let f = w.0 in cc);
-      }))
+      whole_ran w.0 (run_with (λ _. subst (Appends written written_now) is.printed w.1) (λ e. absurd (let f = w.0 in cc))))
       (λ (w : (outcome.status ≡ 5) × AppendsFront written written_now (string_bytes shown.text) × Rose writes writes_now).
-      part_ran w.0 (record {
+      part_ran w.0 (run_with (λ e. absurd (let f = w.0 in cc)) (λ _. subst (AppendsFront written written_now) is.printed w.1)) w.2)
+      finished.printed
+    where
+      text : List ℕ
+      text = run_text is.told shown.ended.order shown.ended.records shown.ended.places
+
+      run_with : (outcome.status ≡ 0 → Appends written written_now text) → (outcome.status ≡ 5 → AppendsFront written written_now text) → HasRun left left_now written written_now outcome
+      run_with whole part = record {
         script = script;
         reads = reads_script;
-        records = records;
-        order = order;
-        prefixes = prefixes;
-        one = one;
-        spoken = spoken;
-        whole = λ e. absurd (let f = w.0 in cc);
-        part = λ _. subst (AppendsFront written written_now) is.text w.1;
-      }) w.2)
-      finished.printed
+        told = is.told;
+        answered = is.answered;
+        handed = shown.ended;
+        ended = is.ends;
+        refused = is.refused;
+        records = finished.records;
+        order = finished.order;
+        prefixes = finished.prefixes;
+        whole = whole;
+        part = part;
+      }

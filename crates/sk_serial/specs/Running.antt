@@ -1,23 +1,23 @@
 -- What a run answers and prints, and what it takes of its source.
 use Rattle.std.specs.Prelude.{◌≡◌, ◌⊎◌, ◌↔◌, ℕ, ◌<◌, ◌≤◌, List, [], ◌∷◌, Option, Result, Ok, Err, Bool, true, false, length, take, IfSome, codes, ◌==◌}
-use Rattle.std.specs.List.{list_any}
+use Rattle.std.specs.List.{list_any, range_with_len}
 use Rattle.std.specs.String.{string_bytes}
 use Rattle.std.specs.Io.KnownBytes.{Appends, Consumes, IsAtEnd}
 use Rattle.sk_outside.specs.Causes.{Rose}
 use Rattle.sk_outside.specs.Pieces.{AppendsFront}
 use Rattle.sk_model.specs.declared.outcome.Outcome.{Outcome}
-use Rattle.sk_model.specs.Records.{OneDatabase}
-use Rattle.sk_model.specs.Spoken.{Spoken}
-use Rattle.sk_plain.specs.Standing.{opening_of}
 use Rattle.sk_script.specs.declared.script.Script.{Script}
 use Rattle.sk_script.specs.declared.script.ScriptFault.TheVariants as fault
 use Rattle.sk_script.specs.Script.{script_of}
 use Rattle.sk_text.specs.Text.{script_fault_text}
-use Rattle.sk_script.specs.Limits.{most_read}
+use Rattle.sk_script.specs.Limits.{most_read, most_sessions}
 use Rattle.sk_serial.specs.declared.playing.Shown.{Shown}
 use Rattle.sk_serial.specs.declared.run_fault.RunFault.{RunFault}
 use Rattle.sk_serial.specs.declared.run_fault.RunFault.TheVariants as run_fault
-use Rattle.sk_serial.specs.Played.{lines_with, run_of, tables_in, text_of}
+use Rattle.sk_run.specs.declared.ended.Ended.{Ended}
+use Rattle.sk_run.specs.Told.{RunLine, ObeyTable}
+use Rattle.sk_run.specs.Ended.{HasEnded}
+use Rattle.sk_serial.specs.Played.{tables_in, AreAnswered, HasShown, run_text}
 
 -- the bytes were read: to the end of the source, or through the first byte past the longest script
 pub record IsRead (old new : Option (List ℕ)) (bytes : List ℕ) : Type 0 where
@@ -52,12 +52,9 @@ ReadAs bytes (Err (run_fault.Script line place)) = script_of bytes ≡ Err (faul
 ReadAs bytes (Err run_fault.Read) = ⊥
 ReadAs bytes (Err run_fault.NoMemory) = Unit {0}
 
--- the run of a script, with its text: it is of one database, and what each line was answered is what the records say
-pub record IsShown (script : Script) (shown : Shown) : Type 0 where
-  pub played : shown.played ≡ run_of script
-  pub text : string_bytes shown.text ≡ text_of script
-  pub one : OneDatabase (tables_in script) (opening_of (tables_in script)) shown.played.order shown.played.places shown.played.records
-  pub spoken : Spoken (lines_with script shown.played.replies) shown.played.records
+-- the run of a script, with its text
+abbrev pub IsShown : Script → Shown → Type 0
+IsShown script shown = HasShown (tables_in script) script.lines shown.ended (string_bytes shown.text)
 
 -- what became of bytes: a script that was played, or its first fault
 abbrev pub PlayedOf : List ℕ → Result Shown RunFault → Type 0
@@ -113,9 +110,9 @@ IsNothing outcome = (outcome.records ≡ []) × (outcome.order ≡ []) × (outco
 
 -- the run is handed out, and its text is printed, or a front of it
 pub record IsFinished (shown : Shown) (outcome : Outcome) (old new : Option (List ℕ)) (before now : ℕ) : Type 0 where
-  pub records : outcome.records ≡ shown.played.records
-  pub order : outcome.order ≡ shown.played.order
-  pub prefixes : outcome.prefixes ≡ shown.played.places
+  pub records : outcome.records ≡ shown.ended.records
+  pub order : outcome.order ≡ shown.ended.order
+  pub prefixes : outcome.prefixes ≡ shown.ended.places
   pub printed : ((outcome.status ≡ 0) × Appends old new (string_bytes shown.text)) ⊎ ((outcome.status ≡ 5) × AppendsFront old new (string_bytes shown.text) × Rose before now)
 
 -- the script has a fault, and it is the one that is printed
@@ -125,18 +122,22 @@ pub record IsScriptFault (left left_now old new : Option (List ℕ)) (before now
   pub departs : Departs left left_now line place
   pub printed : Prints old new before now (script_fault_text line place)
 
--- A script was read, and the outcome is its run: each reply by the rules, in the printed text; the records, the list of commits
--- and the prefixes of the records. These are of one database, and what is printed for each line is what its record says.
+-- A script was read and played: each of its lines was answered so, and the outcome is what its run has handed out. So the records, the list
+-- of commits and the prefixes of the records are of one database, the records of each session say what its lines were answered, what the
+-- table of refusals refuses was refused so and nothing else was, and this is what was printed for them.
 pub record HasRun (left left_now written written_now : Option (List ℕ)) (outcome : Outcome) : Type 0 where
   pub script : Script
   pub reads : Reads left left_now script
-  pub records : outcome.records ≡ (run_of script).records
-  pub order : outcome.order ≡ (run_of script).order
-  pub prefixes : outcome.prefixes ≡ (run_of script).places
-  pub one : OneDatabase (tables_in script) (opening_of (tables_in script)) outcome.order outcome.prefixes outcome.records
-  pub spoken : Spoken (lines_with script (run_of script).replies) outcome.records
-  pub whole : outcome.status ≡ 0 → Appends written written_now (text_of script)
-  pub part : outcome.status ≡ 5 → AppendsFront written written_now (text_of script)
+  pub told : List RunLine
+  pub answered : AreAnswered script.lines told
+  pub handed : Ended
+  pub ended : HasEnded (tables_in script) told handed
+  pub refused : ObeyTable (tables_in script) told (range_with_len 1 most_sessions)
+  pub records : outcome.records ≡ handed.records
+  pub order : outcome.order ≡ handed.order
+  pub prefixes : outcome.prefixes ≡ handed.places
+  pub whole : outcome.status ≡ 0 → Appends written written_now (run_text told handed.order handed.records handed.places)
+  pub part : outcome.status ≡ 5 → AppendsFront written written_now (run_text told handed.order handed.records handed.places)
 
 -- What a run answers and prints, where left is what the source has left, written what the sink holds, and each has its count of
 -- faults: before the call and behind it.

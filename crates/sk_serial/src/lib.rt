@@ -8,4 +8,6 @@ mod running;
 pub use running::run_script;
 
 #[cfg(test)]
+mod session_rows;
+#[cfg(test)]
 mod tests;

@@ -1,36 +1,44 @@
 //! A script that was read, played and put into text.
 
-ghost use Rattle.std.specs.Prelude.{◌≡◌, ◌∷◌, ◌++◌, [], map, IfOk, None, OnOk};
-ghost use Rattle.std.specs.List.{zip};
+ghost use Rattle.std.specs.Prelude.{◌≡◌, ◌∷◌, ◌++◌, [], map, length, true, IfOk, Ok, None};
+ghost use Rattle.std.specs.List.{AllByRecursion};
 ghost use Rattle.std.specs.String.{string_bytes};
-ghost use Rattle.sk_model.specs.Records.{OneDatabase};
-ghost use Rattle.sk_model.specs.Spoken.{Spoken, spoke};
-ghost use Rattle.sk_plain.specs.Session.{played_of};
-ghost use Rattle.sk_plain.specs.Standing.{opening_of};
 ghost use Rattle.sk_rows.specs.Catalog.{add_fault};
+ghost use Rattle.sk_script.specs.Limits.{most_sessions};
+ghost use Rattle.sk_script.specs.Options.{CanSet, AreInRange};
+ghost use Rattle.sk_script.specs.Rules.{IsSession, session_in};
 ghost use Rattle.sk_script.specs.Tables.{CanAdd};
-ghost use Rattle.sk_text.specs.Text.{replies_text};
+ghost use Rattle.sk_script.specs.Texts.{says_short};
+ghost use Rattle.sk_run.specs.Kept.{IsKnown, KeepsOn, RefusesOn};
 ghost use Rattle.sk_serial.specs.Played as spec;
 ghost use Rattle.sk_serial.specs.Running.{IsShown};
 
-use sk_model::Reply;
-use sk_plain::{Played, StatementList, play};
-use sk_rows::{Catalog, CatalogFault, NoMemory, Statement, Table};
-use sk_script::{Line, Script, ScriptLine, TableLine, put_reply_lines, put_report};
+use sk_chain::Engine;
+use sk_mem::MemEngine;
+use sk_model::{Point, Reply};
+use sk_rows::{Catalog, CatalogFault, NoMemory, Table};
+use sk_run::{Ended, Run};
+use sk_script::{Line, Script, ScriptLine, Settings, TableLine, put_reply_lines, put_report};
+use sk_session::Unanswered;
+use sk_store::StoreEngine;
 use std::alloc::Global;
+use std::mem::drop;
+
+/// The sessions that a script may have.
+const MOST_SESSIONS: u16 = 64;
 
 /// A run, with its text.
 #[derive(Drop)]
 pub(crate) struct Shown {
-    pub(crate) played: Played,
+    pub(crate) ended: Ended,
     pub(crate) text: String,
 }
 
-/// Lines taken apart: the session of each, and what it says.
+/// A run under way, with the text of its replies so far.
 #[derive(Drop)]
-struct Parts {
-    sessions: Vec<u16>,
-    statements: Vec<Statement>,
+struct Playing {
+    run: Run,
+    text: String,
 }
 
 /// The catalog with one more table, which it takes.
@@ -57,78 +65,121 @@ fn catalog_of(alloc: Global, lines: Vec<TableLine>) -> Result<Catalog, NoMemory>
     Ok(catalog)
 }
 
-fn parts_of(alloc: Global, lines: Vec<ScriptLine>) -> Result<Parts, NoMemory>
-    ensures sessions { IfOk result (λ p. p.sessions.items ≡ map (λ l. spec.session_in l.what) lines.items) }
-    ensures statements { IfOk result (λ p. p.statements.items ≡ map (λ l. spec.statement_in l.what) lines.items) }
+/// The run of a script before its first line.
+fn begun(alloc: Global, catalog: Catalog, settings: Settings) -> Result<Playing, NoMemory>
+    requires { AreInRange settings }
+    ensures { IfOk result (λ p. spec.HasPlayed ⟦<MemEngine as Engine>⟧.stands ⟦<StoreEngine as Engine>⟧.stands catalog [] p.run (string_bytes p.text)) }
 {
-    let mut sessions = Vec::new(alloc);
-    let mut statements = Vec::new(alloc);
-    for line in lines {
-        let Line::Says { session, statement } = line.what;
-        sessions.push(session)?;
-        statements.push(statement)?;
-    }
-    Ok(Parts {
-        sessions,
-        statements,
+    let start = Point {
+        a: settings.startm,
+        b: settings.starts,
+        commit: false,
+    };
+    let run = Run::new(
+        alloc,
+        catalog,
+        settings.partitions,
+        settings.points,
+        start,
+        MOST_SESSIONS,
+    )?;
+    Ok(Playing {
+        run,
+        text: String::new(alloc),
     })
 }
 
-fn put_replies(
-    out: &mut String,
-    mut sessions: &[u16],
-    mut replies: &[Reply],
-) -> Result<(), NoMemory>
-    ensures { OnOk result (string_bytes out.new ≡ string_bytes out.old ++ replies_text (zip sessions.entry.now replies.entry.now)) }
+/// A call that could not be answered is one for which memory was wanted.
+fn or_memory(answer: Result<(Run, Reply), Unanswered>) -> Result<(Run, Reply), NoMemory>
+    ensures { IfOk result (λ all. answer ≡ Ok all) }
 {
-    while let [session, more @ ..] = sessions {
-        let [reply, rest @ ..] = replies else {
-            return Ok(());
-        };
-        put_reply_lines(out, *session, reply)?;
-        sessions = more;
-        replies = rest;
+    match answer {
+        Ok(all) => Ok(all),
+        Err(Unanswered) => Err(NoMemory),
     }
-    Ok(())
 }
 
-fn run_text(alloc: Global, sessions: &[u16], played: &Played) -> Result<String, NoMemory>
-    ensures { IfOk result (λ text. string_bytes text ≡ spec.run_text sessions.now played.now) }
+/// What a line is answered, and the run behind it.
+fn answered(alloc: Global, run: Run, line: &Line) -> Result<(Run, Reply), NoMemory>
+    requires known { IsKnown run (session_in line.now) }
+    requires short { says_short line.now ≡ true }
+    ensures kept { IfOk result (λ all. KeepsOn ⟦<MemEngine as Engine>⟧.stands ⟦<StoreEngine as Engine>⟧.stands run (session_in line.now) (spec.statement_in line.now) all.0 all.1) }
+    ensures refused { IfOk result (λ all. RefusesOn ⟦<MemEngine as Engine>⟧.stands ⟦<StoreEngine as Engine>⟧.stands run (session_in line.now) (spec.statement_in line.now) all.0 all.1) }
+    ensures tables { IfOk result (λ all. all.0.catalog ≡ run.catalog) }
+    ensures sessions { IfOk result (λ all. length all.0.sessions ≡ length run.sessions) }
 {
-    let mut out = String::new(alloc);
-    put_replies(&mut out, sessions, played.replies.as_slice())?;
+    match line {
+        Line::Says { session, statement } => or_memory(run.line(alloc, *session, Some(statement))),
+        Line::Step { session } => or_memory(run.line(alloc, *session, None)),
+    }
+}
+
+fn session_in(line: &Line) -> u16
+    ensures { result ≡ session_in line.now }
+{
+    match line {
+        Line::Says { session, .. } | Line::Step { session } => *session,
+    }
+}
+
+/// Plays one line more.
+fn play_line(alloc: Global, playing: Playing, line: &ScriptLine) -> Result<Playing, NoMemory>
+    requires known { IsKnown playing.run (session_in line.now.what) }
+    requires short { says_short line.now.what ≡ true }
+    ensures played { IfOk result (λ p. spec.PlaysOn ⟦<MemEngine as Engine>⟧.stands ⟦<StoreEngine as Engine>⟧.stands playing.run (string_bytes playing.text) (line.now ∷ []) p.run (string_bytes p.text)) }
+    ensures sessions { IfOk result (λ p. length p.run.sessions ≡ length playing.run.sessions) }
+{
+    let Playing { run, mut text } = playing;
+    let (run, reply) = answered(alloc, run, &line.what)?;
+    put_reply_lines(&mut text, session_in(&line.what), &reply)?;
+    Ok(Playing { run, text })
+}
+
+/// Plays all lines, one after another.
+fn play_lines(alloc: Global, begun: Playing, lines: Vec<ScriptLine>) -> Result<Playing, NoMemory>
+    requires sessions { AllByRecursion (λ l. IsSession (session_in l.what)) lines.items }
+    requires texts { AllByRecursion (λ l. says_short l.what ≡ true) lines.items }
+    requires known { length begun.run.sessions ≡ most_sessions }
+    ensures { IfOk result (λ p. spec.PlaysOn ⟦<MemEngine as Engine>⟧.stands ⟦<StoreEngine as Engine>⟧.stands begun.run (string_bytes begun.text) lines.items p.run (string_bytes p.text)) }
+{
+    let mut playing = begun;
+    for line in lines {
+        playing = play_line(alloc, playing, &line)?;
+        drop(line);
+    }
+    Ok(playing)
+}
+
+/// Ends a run, and puts its report behind the text of its replies.
+fn with_report(alloc: Global, playing: Playing) -> Result<Shown, NoMemory>
+    ensures { IfOk result (λ s. spec.EndsSo ⟦<MemEngine as Engine>⟧.stands ⟦<StoreEngine as Engine>⟧.stands playing.run (string_bytes playing.text) s.ended (string_bytes s.text)) }
+{
+    let Playing { run, mut text } = playing;
+    let ended = match run.finish(alloc) {
+        Ok(ended) => ended,
+        Err(_) => return Err(NoMemory),
+    };
     put_report(
-        &mut out,
-        played.order.as_slice(),
-        played.records.as_slice(),
-        played.places.as_slice(),
+        &mut text,
+        ended.order.as_slice(),
+        ended.records.as_slice(),
+        ended.places.as_slice(),
     )?;
-    Ok(out)
+    Ok(Shown { ended, text })
 }
 
-/// Plays these lines over these tables.
-fn play_parts(alloc: Global, catalog: &Catalog, parts: Parts) -> Result<Shown, NoMemory>
-    ensures played { IfOk result (λ shown. shown.played ≡ played_of catalog.now parts.statements.items) }
-    ensures text { IfOk result (λ shown. string_bytes shown.text ≡ spec.run_text parts.sessions.items (played_of catalog.now parts.statements.items)) }
-    ensures one { IfOk result (λ shown. OneDatabase catalog.now (opening_of catalog.now) shown.played.order shown.played.places shown.played.records) }
-    ensures spoken { IfOk result (λ shown. Spoken (spoke (map (λ s. 1) parts.statements.items) parts.statements.items shown.played.replies) shown.played.records) }
-{
-    let Parts {
-        sessions,
-        statements,
-    } = parts;
-    let played = play(alloc, catalog, StatementList::from_vec(statements))?;
-    let text = run_text(alloc, sessions.as_slice(), &played)?;
-    Ok(Shown { played, text })
-}
-
-/// Plays a script, whose tables a catalog takes one after another, and puts the run into text.
+/// Plays a script that was read, and puts the run into text.
 pub(crate) fn play_script(alloc: Global, script: Script) -> Result<Shown, NoMemory>
-    requires { CanAdd [] (spec.tables_in script) }
+    requires tables { CanAdd [] (spec.tables_in script) }
+    requires options { CanSet [] script.options }
+    requires sessions { AllByRecursion (λ l. IsSession (session_in l.what)) script.lines }
+    requires texts { AllByRecursion (λ l. says_short l.what ≡ true) script.lines }
     ensures { IfOk result (λ shown. IsShown script shown) }
 {
-    let Script { tables, lines } = script;
+    let settings = script.settings();
+    let Script { tables, lines, .. } = script;
     let catalog = catalog_of(alloc, tables.into_vec())?;
-    let parts = parts_of(alloc, lines.into_vec())?;
-    play_parts(alloc, &catalog, parts)
+    let begun = begun(alloc, catalog, settings)?;
+    let playing = play_lines(alloc, begun, lines.into_vec())?;
+    with_report(alloc, playing)
 }

@@ -1,11 +1,15 @@
 //! One script from bytes to bytes.
 
 ghost use Rattle.std.specs.Prelude.{◌≡◌, ◌↔◌, ◌⊎◌, ◌≤◌, [], map, true, false, is_some, IfOk, IsErrOf, IfErr, Err, ℕ};
+ghost use Rattle.std.specs.List.{AllByRecursion};
 ghost use Rattle.std.specs.Io.KnownBytes.{Appends};
 ghost use Rattle.std.specs.String.{string_bytes};
 ghost use Rattle.sk_outside.specs.Causes.{Rose};
 ghost use Rattle.sk_outside.specs.Pieces.{AppendsFront, ConsumesAtMost};
 ghost use Rattle.sk_script.specs.Limits.{most_read};
+ghost use Rattle.sk_script.specs.Options.{CanSet};
+ghost use Rattle.sk_script.specs.Rules.{IsSession, session_in};
+ghost use Rattle.sk_script.specs.Texts.{says_short};
 ghost use Rattle.sk_script.specs.Words.{place as place_of};
 ghost use Rattle.sk_script.specs.Tables.{CanAdd};
 ghost use Rattle.sk_text.specs.Text.{script_fault_text};
@@ -16,14 +20,17 @@ use crate::playing::{Shown, play_script};
 use crate::run_fault::RunFault;
 use sk_model::{CommitList, Outcome, PlaceList, RecordList};
 use sk_outside::{ReadError, Sink, Source, read_whole, write_whole};
-use sk_plain::Played;
 use sk_rows::NoMemory;
+use sk_run::Ended;
 use sk_script::{Script, ScriptFault, place, put_script_fault, read_script};
 use std::alloc::Global;
 
 fn read(alloc: Global, bytes: &[u8]) -> Result<Script, RunFault>
     ensures script { spec.ReadAs bytes.now result }
     ensures tables { IfOk result (λ script. CanAdd [] (tables_in script)) }
+    ensures options { IfOk result (λ script. CanSet [] script.options) }
+    ensures sessions { IfOk result (λ script. AllByRecursion (λ l. IsSession (session_in l.what)) script.lines) }
+    ensures texts { IfOk result (λ script. AllByRecursion (λ l. says_short l.what ≡ true) script.lines) }
 {
     match read_script(alloc, bytes) {
         Ok(script) => Ok(script),
@@ -144,14 +151,14 @@ fn refuse<K: Sink>(alloc: Global, fault: RunFault, sink: &mut K) -> Outcome
 fn finish<K: Sink>(shown: Shown, sink: &mut K) -> Outcome
     ensures { spec.IsFinished shown result (K.written sink.old) (K.written sink.new) (K.faults sink.old) (K.faults sink.new) }
 {
-    let Shown { played, text } = shown;
+    let Shown { ended, text } = shown;
     let status = if print(sink, text.as_bytes()) { 0 } else { 5 };
-    let Played {
+    let Ended {
         records,
         order,
         places,
         ..
-    } = played;
+    } = ended;
     Outcome {
         status,
         records,
@@ -176,8 +183,9 @@ fn run<S: Source, K: Sink>(alloc: Global, words: &[String], source: &mut S, sink
 
 /// Plays one script: all that `skdb` does. The words are those behind the program's name, and exactly `run DIR`.
 ///
-/// The script is read from the source to its end and played by one session over a plain list of commits; the directory is not
-/// touched. The text goes into the sink by one write at the end, or by more where the sink takes less at once. Statuses: 0 Ok,
+/// The script is read from the source to its end and played, line by line, by its sessions over both engines; the directory is
+/// not touched. At its end each commit that is under way takes the steps that are left of it, and each other transaction that is
+/// open is rolled back, session by session. The text goes into the sink by one write at the end, or by more where the sink takes less at once. Statuses: 0 Ok,
 /// 2 the words are of no written form, 3 the script departs from the grammar, 4 the source failed, 5 the sink failed, 8 want of
 /// memory. Statuses 2, 3, 4 and 8 print their one line and hand nothing out.
 pub fn run_script<S: Source, K: Sink>(
@@ -205,8 +213,8 @@ pub fn run_script<S: Source, K: Sink>(
     ensures memory { result.status ≡ 8 → spec.Prints (K.written sink.old) (K.written sink.new) (K.faults sink.old) (K.faults sink.new) spec.memory_text }
     ensures nothing { spec.is_fault result.status ≡ true → spec.IsNothing result }
 
-    // The script was read and is played, as one database with its list of commits, and what is printed for its lines is what the
-    // records say; with status 0 all of its text is printed, with status 5 a front of it.
+    // The script was read and is played: what is handed out is of one database with its list of commits, and the records of each
+    // session say what its lines were answered; with status 0 all of the text is printed, with status 5 a front of it.
     ensures played { spec.is_fault result.status ≡ false → spec.HasRun (S.left source.old) (S.left source.new) (K.written sink.old) (K.written sink.new) result }
 
     // At most so many bytes are taken, whatever it answers.

@@ -134,14 +134,14 @@ const REFUSALS_TEXT: &[&str] = &[
     "1: ROW 1, 9223372036854775807\n",
     "1: ROWS 2\n",
     "1: COMMITTED\n",
-    "ORDER 1.1 1 -\n",
     "ORDER 1.4 - 1\n",
+    "ORDER 1.1 1 -\n",
     "ORDER 1.5 2 -\n",
     "TX 1.1 memory 0 - 0 committed 1 - -\n",
-    "TX 1.2 memory 1 - 1 rolledback - - -\n",
-    "TX 1.3 memory 1 - 1 rolledback - - -\n",
+    "TX 1.2 memory 1 - 2 rolledback - - -\n",
+    "TX 1.3 memory 1 - 2 rolledback - - -\n",
     "TX 1.4 storage - 0 0 committed - 1 -\n",
-    "TX 1.5 cross 1 - 1 committed 2 - -\n",
+    "TX 1.5 cross 1 - 2 committed 2 - -\n",
 ];
 
 // Refused statements that take no snapshot, a row that is written and gone, rows that stay as they are, a transaction open at the end.
@@ -196,7 +196,7 @@ const ENDINGS_TEXT: &[&str] = &[
 
 const ROOM: usize = 4096;
 
-fn joined(alloc: Global, lines: &[&str]) -> Result<String, AllocError> {
+pub(crate) fn joined(alloc: Global, lines: &[&str]) -> Result<String, AllocError> {
     let mut text = String::new(alloc);
     for line in lines {
         text.push_str(line)?;
@@ -204,7 +204,7 @@ fn joined(alloc: Global, lines: &[&str]) -> Result<String, AllocError> {
     Ok(text)
 }
 
-fn words(alloc: Global, texts: &[&str]) -> Result<Vec<String>, AllocError> {
+pub(crate) fn words(alloc: Global, texts: &[&str]) -> Result<Vec<String>, AllocError> {
     let mut words = Vec::new(alloc);
     for text in texts {
         words.push(joined(alloc, &[*text])?)?;
@@ -219,7 +219,7 @@ struct Row {
     text: &'static [&'static str],
 }
 
-const ROWS: [Row; 10] = [
+const ROWS: [Row; 11] = [
     Row {
         words: &["run", "d"],
         script: FIRST,
@@ -259,6 +259,12 @@ const ROWS: [Row; 10] = [
     Row {
         words: &["run", "d"],
         script: &["2: COMMIT\n", "1: SELEC\n"],
+        status: 3,
+        text: &["FAULT script 2 4\n"],
+    },
+    Row {
+        words: &["run", "d"],
+        script: &["65: COMMIT\n"],
         status: 3,
         text: &["FAULT script 1 1\n"],
     },

@@ -1,6 +1,0 @@
-use Rattle.std.proofs.Common.{rules}
-use Rattle.sk_plain.proofs.Shown.{set_shown}
-use Rattle.sk_plain.proofs.maps.set_row.Goals as goal
-
-pub returns-in_ok-set_in-in-Some : goal.returns-in_ok-set_in-in-Some
-returns-in_ok-set_in-in-Some c = set_shown c.args.tables.now.items c.args.table c.in-Some.rows.now c.set_in.new.rows c.args.key c.args.row (search rules) (search rules) (search rules)
