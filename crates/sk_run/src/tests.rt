@@ -1,3 +1,6 @@
+ghost use Rattle.std.specs.Prelude.{◌≡◌, true, IfOk};
+ghost use Rattle.sk_core.specs.Conduct.{texts_are_short};
+
 use super::*;
 use sk_model::{Point, Reply};
 use sk_rows::{Begun, Catalog, Column, ColumnList, Sort, Statement, Table, Txt, Value, ValueList};
@@ -23,7 +26,9 @@ fn table(alloc: Global) -> Result<Table, Fail> {
     })
 }
 
-fn insert(alloc: Global, id: i64) -> Result<Statement, Fail> {
+fn insert(alloc: Global, id: i64) -> Result<Statement, Fail>
+    ensures { IfOk result (λ s. texts_are_short s ≡ true) }
+{
     Ok(Statement::Insert {
         table: text(alloc, b"a")?,
         values: ValueList::of_one(alloc, Value::Int(id))?,
