@@ -1,0 +1,4 @@
+pub mod Placing
+pub mod Tables
+pub mod Climbing
+pub mod Goes
