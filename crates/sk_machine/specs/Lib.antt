@@ -1,0 +1,4 @@
+pub mod Progress
+pub mod Doing
+pub mod Reopening
+pub mod Reached
