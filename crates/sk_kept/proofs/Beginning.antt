@@ -11,8 +11,8 @@ use Rattle.sk_model.specs.declared.record.TxKind.{TxKind}
 use Rattle.sk_model.specs.Records.{same_label}
 use Rattle.sk_model.specs.Talks.{tx_of, is_tx, is_by, entries_by}
 use Rattle.sk_model.proofs.Lists.{Each, each_append, each_front, each_end, each_weaker}
-use Rattle.sk_core.specs.Traces.{In}
-use Rattle.sk_core.proofs.Members.{each_in, in_each}
+use Rattle.sk_linked.specs.Traces.{In}
+use Rattle.sk_linked.proofs.Members.{each_in, in_each}
 use Rattle.sk_session.specs.Common.{Common}
 use Rattle.sk_session.specs.Facts.{Facts, fresh_facts}
 use Rattle.sk_kept.specs.Held.{Trace, drawn_of, IsHeld, Alone, Made, Drew, Drawer, Maker, Caller, Held}

@@ -6,7 +6,7 @@ use Rattle.sk_model.specs.declared.engine.EngineName.{EngineName}
 use Rattle.sk_model.specs.declared.engine.EngineName.TheVariants.{Mem, Store}
 use Rattle.sk_model.specs.declared.point.Point.{Point}
 use Rattle.sk_model.proofs.Lists.{Each}
-use Rattle.sk_core.specs.State.{counter}
+use Rattle.sk_linked.specs.State.{counter}
 use Rattle.sk_weave.specs.Reads.{number_at}
 use Rattle.sk_weave.specs.AheadLaws.{counters_of}
 use Rattle.sk_weave.proofs.Aheads.{at_first}

@@ -23,8 +23,8 @@ use Rattle.sk_weave.specs.Reads.{PairIf}
 use Rattle.sk_weave.proofs.Staircase.{check_follows}
 use Rattle.sk_weave.proofs.Registers.{points_after_append, select_follows, comes_last, ok_is}
 use Rattle.sk_weave.proofs.Pairs.{pair_stays}
-use Rattle.sk_core.specs.Traces.{In}
-use Rattle.sk_core.proofs.Members.{each_in}
+use Rattle.sk_linked.specs.Traces.{In}
+use Rattle.sk_linked.proofs.Members.{each_in}
 use Rattle.sk_commit.specs.declared.asking.RegistryCall.{RegistryCall}
 use Rattle.sk_commit.specs.declared.asking.RegistryCall.TheVariants as reg
 use Rattle.sk_commit.specs.declared.asking.RegistryReply.{RegistryReply}

@@ -15,7 +15,7 @@ use Rattle.sk_commit.specs.declared.asking.Got.TheVariants as given
 use Rattle.sk_commit.specs.Fits.{WishFits}
 use Rattle.sk_session.specs.Facts.{Facts, FitsFacts, facts_after}
 use Rattle.sk_kept.specs.Held.{Trace, trace_after, Drew}
-use Rattle.sk_core.proofs.Members.{some_clash}
+use Rattle.sk_linked.proofs.Members.{some_clash}
 
 -- its number stays, or it had none
 abbrev Once : Option ℕ → Option ℕ → Type 0

@@ -14,11 +14,11 @@ use Rattle.sk_model.specs.Talks.{Talk}
 use Rattle.sk_model.proofs.Lists.{Each}
 use Rattle.sk_weave.specs.Reads.{order_of}
 use Rattle.sk_weave.specs.AheadLaws.{Counters}
-use Rattle.sk_core.specs.Traces.{Transaction, run_of}
-use Rattle.sk_core.specs.Headline.{place_of}
-use Rattle.sk_core.specs.Joining.{Share, Counted, Apart}
-use Rattle.sk_core.specs.Kept.{Account, Session, Play, transaction_in, transactions_in, share_in, shares_in, traces_in, records_in, IsPlay, IsOneRun}
-use Rattle.sk_core.proofs.Kept.{sessions_are_one}
+use Rattle.sk_linked.specs.Traces.{Transaction, run_of}
+use Rattle.sk_linked.specs.Headline.{place_of}
+use Rattle.sk_linked.specs.Joining.{Share, Counted, Apart}
+use Rattle.sk_linked.specs.Kept.{Account, Session, Play, transaction_in, transactions_in, share_in, shares_in, traces_in, records_in, IsPlay, IsOneRun}
+use Rattle.sk_linked.proofs.Kept.{sessions_are_one}
 use Rattle.sk_session.specs.declared.live.At.{At}
 use Rattle.sk_session.specs.declared.live.At.TheVariants as at
 use Rattle.sk_session.specs.declared.session.Session.{Session as Speaker}

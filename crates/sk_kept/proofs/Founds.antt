@@ -16,11 +16,11 @@ use Rattle.sk_model.specs.Records.{AtMost, IsLater, Follows, Fresh}
 use Rattle.sk_model.proofs.Lists.{Each, each_append, each_weaker, each_front, each_end}
 use Rattle.sk_weave.specs.AheadLaws.{Counters, counters_of, AreAhead}
 use Rattle.sk_weave.proofs.Aheads.{at_first}
-use Rattle.sk_core.specs.Traces.{Transaction, In}
-use Rattle.sk_core.specs.Joining.{Share, Counted, Apart}
-use Rattle.sk_core.specs.Kept.{Account, Session, Play, transaction_in, transactions_in, share_in, records_in}
-use Rattle.sk_core.proofs.Members.{each_in, in_each, some_same}
-use Rattle.sk_core.proofs.Joining.{InFlat, flat_in, in_flat, counted_each}
+use Rattle.sk_linked.specs.Traces.{Transaction, In}
+use Rattle.sk_linked.specs.Joining.{Share, Counted, Apart}
+use Rattle.sk_linked.specs.Kept.{Account, Session, Play, transaction_in, transactions_in, share_in, records_in}
+use Rattle.sk_linked.proofs.Members.{each_in, in_each, some_same}
+use Rattle.sk_linked.proofs.Joining.{InFlat, flat_in, in_flat, counted_each}
 use Rattle.sk_commit.specs.declared.asking.RegistryCall.{RegistryCall}
 use Rattle.sk_commit.specs.declared.asking.RegistryCall.TheVariants as reg
 use Rattle.sk_commit.specs.declared.asking.RegistryReply.{RegistryReply}

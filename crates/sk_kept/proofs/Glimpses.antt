@@ -14,9 +14,9 @@ use Rattle.sk_weave.specs.declared.answer.Selected.{Selected}
 use Rattle.sk_weave.specs.Registry.{Regs, IsSound, after_selection, after_draw_mem, after_draw_store, after_check}
 use Rattle.sk_weave.specs.AheadLaws.{Counters, counters_of, AreAhead, KeepsAhead}
 use Rattle.sk_weave.proofs.Aheads.{at_first, ahead_stays}
-use Rattle.sk_core.specs.Traces.{In}
-use Rattle.sk_core.specs.State.{counter}
-use Rattle.sk_core.proofs.Members.{each_in, in_each, some_same, some_clash}
+use Rattle.sk_linked.specs.Traces.{In}
+use Rattle.sk_linked.specs.State.{counter}
+use Rattle.sk_linked.proofs.Members.{each_in, in_each, some_same, some_clash}
 use Rattle.sk_commit.specs.declared.asking.RegistryCall.{RegistryCall}
 use Rattle.sk_commit.specs.declared.asking.RegistryCall.TheVariants as reg
 use Rattle.sk_commit.specs.declared.asking.RegistryReply.{RegistryReply}

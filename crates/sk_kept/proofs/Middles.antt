@@ -2,8 +2,8 @@
 use Rattle.std.specs.Prelude.{◌≡◌, List, [], ◌∷◌, ◌++◌, ◌⊎◌}
 use Rattle.std.proofs.Common.{refl, sym, subst, ◌∙◌, inl, inr, ⊎_elim}
 use Rattle.sk_model.proofs.Lists.{Each, each_append, each_front, each_end}
-use Rattle.sk_core.specs.Traces.{In}
-use Rattle.sk_core.proofs.Members.{in_append, in_front, in_either}
+use Rattle.sk_linked.specs.Traces.{In}
+use Rattle.sk_linked.proofs.Members.{in_append, in_front, in_either}
 use Rattle.sk_kept.specs.Held.{Trace, Alone}
 
 -- a member is the one in the middle, or one of the others

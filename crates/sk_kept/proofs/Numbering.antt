@@ -9,8 +9,8 @@ use Rattle.sk_model.specs.declared.label.Label.{Label}
 use Rattle.sk_model.specs.Records.{same_label}
 use Rattle.sk_model.specs.Talks.{Talk}
 use Rattle.sk_model.proofs.Lists.{Each, each_append, each_front, each_end, each_weaker}
-use Rattle.sk_core.specs.Traces.{In}
-use Rattle.sk_core.proofs.Members.{each_in, in_each, each_flat}
+use Rattle.sk_linked.specs.Traces.{In}
+use Rattle.sk_linked.proofs.Members.{each_in, in_each, each_flat}
 use Rattle.sk_session.specs.Facts.{Facts}
 use Rattle.sk_kept.specs.Held.{Trace}
 use Rattle.sk_kept.specs.Running.{Member, traces_of, traces_in, all_traces, Numbered, Differ}

@@ -21,12 +21,12 @@ use Rattle.sk_model.proofs.Labels.{same_itself}
 use Rattle.sk_model.proofs.Lists.{Each, each_weaker}
 use Rattle.sk_weave.specs.Points.{Staircase}
 use Rattle.sk_weave.specs.Reads.{PairIf, first_table}
-use Rattle.sk_core.specs.Traces.{drawn_at, Transaction, In, run_of, Distinct, DrewUnlike, Whose, Known, MakerOf, IsAtHorizons, PointsMade}
-use Rattle.sk_core.specs.Joining.{Share, Counted, TablesFit, Apart, MayRecord, MayRecords, all_transactions}
-use Rattle.sk_core.specs.Conduct.{texts_are_short}
-use Rattle.sk_core.specs.Kept.{Account, Session, Play, transaction_in, transactions_in, share_in, shares_in, traces_in, IsAccount, IsPlay}
-use Rattle.sk_core.proofs.Members.{each_in, in_each, distinct_same}
-use Rattle.sk_core.proofs.Joining.{InFlat, flat_in, in_flat, distinct_all}
+use Rattle.sk_linked.specs.Traces.{drawn_at, Transaction, In, run_of, Distinct, DrewUnlike, Whose, Known, MakerOf, IsAtHorizons, PointsMade}
+use Rattle.sk_linked.specs.Joining.{Share, Counted, TablesFit, Apart, MayRecord, MayRecords, all_transactions}
+use Rattle.sk_model.specs.Texts.{texts_are_short}
+use Rattle.sk_linked.specs.Kept.{Account, Session, Play, transaction_in, transactions_in, share_in, shares_in, traces_in, IsAccount, IsPlay}
+use Rattle.sk_linked.proofs.Members.{each_in, in_each, distinct_same}
+use Rattle.sk_linked.proofs.Joining.{InFlat, flat_in, in_flat, distinct_all}
 use Rattle.sk_session.specs.Common.{Common}
 use Rattle.sk_session.specs.Facts.{facts_of}
 use Rattle.sk_kept.specs.Held.{Trace, drawn_of, IsHeld, Alone, Made, Drew, Maker, Caller, Held}

@@ -24,8 +24,8 @@ use Rattle.sk_weave.specs.AheadLaws.{Counters, counters_of, AreAhead}
 use Rattle.sk_weave.specs.Reads.{PairIf}
 use Rattle.sk_weave.proofs.Registers.{selected_pair, ok_is}
 use Rattle.sk_weave.proofs.Aheads.{fresh}
-use Rattle.sk_core.specs.Traces.{In}
-use Rattle.sk_core.proofs.Members.{each_in, in_each}
+use Rattle.sk_linked.specs.Traces.{In}
+use Rattle.sk_linked.proofs.Members.{each_in, in_each}
 use Rattle.sk_commit.specs.declared.asking.RegistryCall.{RegistryCall}
 use Rattle.sk_commit.specs.declared.asking.RegistryCall.TheVariants as reg
 use Rattle.sk_commit.specs.declared.asking.RegistryReply.TheVariants as told

@@ -17,10 +17,10 @@ use Rattle.sk_model.proofs.Lists.{Each, each_append, each_weaker, filter_all}
 use Rattle.sk_weave.specs.AheadLaws.{counters_of}
 use Rattle.sk_weave.specs.Reads.{PairIf, number_at}
 use Rattle.sk_weave.specs.Registry.{Regs}
-use Rattle.sk_core.specs.Traces.{In}
-use Rattle.sk_core.specs.State.{counter}
-use Rattle.sk_core.proofs.Members.{each_in, in_each, in_append, in_front, in_either, each_call, some_same}
-use Rattle.sk_core.proofs.Going.{calls_more}
+use Rattle.sk_linked.specs.Traces.{In}
+use Rattle.sk_linked.specs.State.{counter}
+use Rattle.sk_linked.proofs.Members.{each_in, in_each, in_append, in_front, in_either, each_call, some_same}
+use Rattle.sk_linked.proofs.Going.{calls_more}
 use Rattle.sk_commit.specs.declared.asking.Wish.{Wish}
 use Rattle.sk_commit.specs.declared.asking.Got.{Got}
 use Rattle.sk_commit.specs.Fits.{WishFits, own_call}

@@ -12,11 +12,11 @@ use Rattle.sk_model.specs.Engine.{engine_at}
 use Rattle.sk_model.specs.Records.{OneDatabase}
 use Rattle.sk_model.specs.Talks.{Talk}
 use Rattle.sk_weave.specs.Reads.{number_at, order_of, AreSorted}
-use Rattle.sk_core.specs.Traces.{run_of}
-use Rattle.sk_core.specs.Headline.{place_of}
-use Rattle.sk_core.specs.Joining.{TablesFit}
-use Rattle.sk_core.specs.Conduct.{texts_are_short}
-use Rattle.sk_core.specs.Kept.{Account, Session, Play, traces_in, records_in, IsPlay}
+use Rattle.sk_linked.specs.Traces.{run_of}
+use Rattle.sk_linked.specs.Headline.{place_of}
+use Rattle.sk_linked.specs.Joining.{TablesFit}
+use Rattle.sk_model.specs.Texts.{texts_are_short}
+use Rattle.sk_linked.specs.Kept.{Account, Session, Play, traces_in, records_in, IsPlay}
 use Rattle.sk_session.specs.EachTalk.{IsBetween}
 use Rattle.sk_session.specs.Starting.{records_now}
 use Rattle.sk_session.specs.Common.{Common}

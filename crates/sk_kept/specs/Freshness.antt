@@ -4,7 +4,7 @@ use Rattle.std.specs.List.{AllByRecursion}
 use Rattle.sk_model.specs.declared.call.EngineCall.TheVariants as call
 use Rattle.sk_model.specs.Records.{IsLater, Fresh}
 use Rattle.sk_weave.specs.AheadLaws.{Counters, AreAhead}
-use Rattle.sk_core.specs.Kept.{Session, Play, records_in}
+use Rattle.sk_linked.specs.Kept.{Session, Play, records_in}
 use Rattle.sk_commit.specs.declared.asking.Wish.{Wish}
 use Rattle.sk_commit.specs.declared.asking.Wish.TheVariants as wish
 use Rattle.sk_commit.specs.declared.asking.RegistryCall.TheVariants as reg

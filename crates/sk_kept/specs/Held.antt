@@ -12,8 +12,8 @@ use Rattle.sk_model.specs.Talks.{Talk, calls_in, tx_of, entries_by}
 use Rattle.sk_weave.specs.Registry.{Regs}
 use Rattle.sk_weave.specs.AheadLaws.{Counters, counters_of}
 use Rattle.sk_weave.specs.Reads.{PairIf, number_at}
-use Rattle.sk_core.specs.State.{counter}
-use Rattle.sk_core.specs.Traces.{In}
+use Rattle.sk_linked.specs.State.{counter}
+use Rattle.sk_linked.specs.Traces.{In}
 use Rattle.sk_commit.specs.declared.asking.Wish.{Wish}
 use Rattle.sk_commit.specs.declared.asking.Wish.TheVariants as wish
 use Rattle.sk_commit.specs.declared.asking.RegistryCall.TheVariants as reg

@@ -6,10 +6,10 @@ use Rattle.sk_model.specs.declared.engine.EngineName.{EngineName}
 use Rattle.sk_model.specs.declared.record.Said.{Said}
 use Rattle.sk_model.specs.RecordTalks.{Talks}
 use Rattle.sk_weave.specs.Reads.{first_table}
-use Rattle.sk_core.specs.Traces.{run_of}
-use Rattle.sk_core.specs.Joining.{Counted, TablesFit, Apart}
-use Rattle.sk_core.specs.Conduct.{texts_are_short}
-use Rattle.sk_core.specs.Kept.{Account, Session, Play, transactions_in, shares_in, traces_in, IsPlay}
+use Rattle.sk_linked.specs.Traces.{run_of}
+use Rattle.sk_linked.specs.Joining.{Counted, TablesFit, Apart}
+use Rattle.sk_model.specs.Texts.{texts_are_short}
+use Rattle.sk_linked.specs.Kept.{Account, Session, Play, transactions_in, shares_in, traces_in, IsPlay}
 use Rattle.sk_session.specs.Common.{Common}
 use Rattle.sk_session.specs.Facts.{facts_of}
 use Rattle.sk_kept.specs.Held.{Trace, Held}

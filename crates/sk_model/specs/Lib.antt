@@ -24,3 +24,4 @@ pub mod Sorts
 pub mod Asking
 pub mod RecordTalks
 pub mod Shapes
+pub mod Texts

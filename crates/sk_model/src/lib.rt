@@ -7,8 +7,8 @@ mod engine;
 mod journal;
 mod label;
 mod laws;
-mod outcome;
 mod point;
+mod prefixes;
 mod receipt;
 mod record;
 mod reply;
@@ -25,8 +25,8 @@ pub use laws::{
     replies_are_told, rows_fit, stamped_are_commits, stamped_at_snapshot, versions_rise,
     writes_are_puts,
 };
-pub use outcome::{Outcome, PlaceList};
 pub use point::{Point, PointList, Recycled};
+pub use prefixes::PlaceList;
 pub use receipt::{FlushFault, Need, Receipt, ReceiptList};
 pub use record::{Ending, Record, RecordList, Said, SaidList, TxKind};
 pub use reply::{ErrWord, Reply, ReplyList, RowList, Why};

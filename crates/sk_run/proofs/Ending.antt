@@ -20,10 +20,10 @@ use Rattle.sk_model.specs.Talks.{Talk}
 use Rattle.sk_model.proofs.Lists.{Each}
 use Rattle.sk_weave.specs.Reads.{Run as CommitRun, order_of}
 use Rattle.sk_weave.specs.Weave.{weave}
-use Rattle.sk_core.specs.Joining.{TablesFit, all_transactions}
-use Rattle.sk_core.specs.Kept.{Account, Session as Spoken, Play, transaction_in, transactions_in, share_in, records_in, traces_in, IsPlay}
-use Rattle.sk_core.specs.Traces.{run_of}
-use Rattle.sk_core.specs.Headline.{place_of}
+use Rattle.sk_linked.specs.Joining.{TablesFit, all_transactions}
+use Rattle.sk_linked.specs.Kept.{Account, Session as Spoken, Play, transaction_in, transactions_in, share_in, records_in, traces_in, IsPlay}
+use Rattle.sk_linked.specs.Traces.{run_of}
+use Rattle.sk_linked.specs.Headline.{place_of}
 use Rattle.sk_mem.specs.declared.engine.MemEngine.{MemEngine}
 use Rattle.sk_store.specs.declared.engine.StoreEngine.{StoreEngine}
 use Rattle.sk_store.specs.Begun.{no_rows}

@@ -7,7 +7,7 @@ use Rattle.sk_model.specs.declared.record.Said.{Said}
 use Rattle.sk_model.specs.declared.record.Record.{Record}
 use Rattle.sk_model.specs.Spoken.{Seat, uses_label}
 use Rattle.sk_model.proofs.Lists.{Each, each_append, each_front, each_end}
-use Rattle.sk_core.specs.Conduct.{texts_are_short}
+use Rattle.sk_model.specs.Texts.{texts_are_short}
 use Rattle.sk_session.specs.declared.session.Session.{Session}
 use Rattle.sk_session.specs.Printed.{Line, Prints, Adds, AddsOne, HasPrinted, said_in, seat_after}
 use Rattle.sk_run.specs.Told.{RunLine, lines_of, IsShort, AreTold}

@@ -8,8 +8,8 @@ use Rattle.sk_model.specs.declared.call.Entry.{Entry}
 use Rattle.sk_model.specs.Engine.{EngineTable}
 use Rattle.sk_model.specs.Records.{OneDatabase}
 use Rattle.sk_weave.specs.Reads.{order_of}
-use Rattle.sk_core.specs.Traces.{run_of}
-use Rattle.sk_core.specs.Kept.{Play, traces_in, records_in, IsPlay}
+use Rattle.sk_linked.specs.Traces.{run_of}
+use Rattle.sk_linked.specs.Kept.{Play, traces_in, records_in, IsPlay}
 use Rattle.sk_mem.specs.declared.engine.MemEngine.{MemEngine}
 use Rattle.sk_store.specs.declared.engine.StoreEngine.{StoreEngine}
 use Rattle.sk_store.specs.Begun.{no_rows}

@@ -5,7 +5,7 @@ use Rattle.sk_rows.specs.declared.table.Table.{Table}
 use Rattle.sk_rows.specs.declared.statement.Statement.{Statement}
 use Rattle.sk_model.specs.declared.record.Record.{Record}
 use Rattle.sk_model.specs.Spoken.{Seat, Outside}
-use Rattle.sk_core.specs.Conduct.{texts_are_short}
+use Rattle.sk_model.specs.Texts.{texts_are_short}
 use Rattle.sk_session.specs.declared.session.Session.{Session}
 use Rattle.sk_session.specs.Printed.{Line, Prints, HasPrinted, said_in}
 use Rattle.sk_session.specs.Heard as stand

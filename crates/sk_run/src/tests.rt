@@ -1,5 +1,5 @@
 ghost use Rattle.std.specs.Prelude.{◌≡◌, true, IfOk};
-ghost use Rattle.sk_core.specs.Conduct.{texts_are_short};
+ghost use Rattle.sk_model.specs.Texts.{texts_are_short};
 
 use super::*;
 use sk_model::{Point, Reply};

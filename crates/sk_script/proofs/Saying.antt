@@ -28,7 +28,8 @@ use Rattle.sk_script.specs.declared.script.ScriptFault.TheVariants as fault
 use Rattle.sk_script.specs.declared.script.ScriptLine.{ScriptLine}
 use Rattle.sk_script.specs.Rules.{AreBodies, IsBody, IsSaid, IsSession, session_in}
 use Rattle.sk_script.specs.Script.{script_of, wants}
-use Rattle.sk_script.specs.Texts.{expr_is_short, says_short, short_step, texts_are_short}
+use Rattle.sk_model.specs.Texts.{expr_is_short, short_step, texts_are_short}
+use Rattle.sk_script.specs.Texts.{says_short}
 use Rattle.sk_script.proofs.Parts.{kept}
 use Rattle.sk_script.proofs.ScriptRules.{script_stands}
 

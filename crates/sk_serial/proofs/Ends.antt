@@ -4,7 +4,7 @@ use Rattle.std.specs.Io.KnownBytes.{Appends}
 use Rattle.std.specs.String.{string_bytes}
 use Rattle.sk_outside.specs.Causes.{Rose}
 use Rattle.sk_outside.specs.Pieces.{AppendsFront}
-use Rattle.sk_model.specs.declared.outcome.Outcome.{Outcome}
+use Rattle.sk_outcome.specs.declared.outcome.Outcome.{Outcome}
 use Rattle.sk_script.specs.declared.script.Script.{Script}
 use Rattle.sk_text.specs.Text.{script_fault_text}
 use Rattle.sk_serial.specs.declared.playing.Shown.{Shown}
@@ -119,6 +119,9 @@ module _ (left left_now written written_now : Option (List ℕ)) (reads reads_no
         ended = is.ends;
         refused = is.refused;
         records = finished.records;
+        mem = finished.mem;
+        store = finished.store;
+        points = finished.points;
         order = finished.order;
         prefixes = finished.prefixes;
         whole = whole;

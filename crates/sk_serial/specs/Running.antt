@@ -5,7 +5,7 @@ use Rattle.std.specs.String.{string_bytes}
 use Rattle.std.specs.Io.KnownBytes.{Appends, Consumes, IsAtEnd}
 use Rattle.sk_outside.specs.Causes.{Rose}
 use Rattle.sk_outside.specs.Pieces.{AppendsFront}
-use Rattle.sk_model.specs.declared.outcome.Outcome.{Outcome}
+use Rattle.sk_outcome.specs.declared.outcome.Outcome.{Outcome}
 use Rattle.sk_script.specs.declared.script.Script.{Script}
 use Rattle.sk_script.specs.declared.script.ScriptFault.TheVariants as fault
 use Rattle.sk_script.specs.Script.{script_of}
@@ -106,11 +106,14 @@ IsRefused run_fault.NoMemory status old new before now = IsPrinted 8 memory_text
 
 -- nothing is handed out
 abbrev pub IsNothing : Outcome → Type 0
-IsNothing outcome = (outcome.records ≡ []) × (outcome.order ≡ []) × (outcome.prefixes ≡ [])
+IsNothing outcome = (outcome.records ≡ []) × (outcome.mem ≡ []) × (outcome.store ≡ []) × (outcome.points ≡ []) × (outcome.order ≡ []) × (outcome.prefixes ≡ [])
 
 -- the run is handed out, and its text is printed, or a front of it
 pub record IsFinished (shown : Shown) (outcome : Outcome) (old new : Option (List ℕ)) (before now : ℕ) : Type 0 where
   pub records : outcome.records ≡ shown.ended.records
+  pub mem : outcome.mem ≡ shown.ended.mem
+  pub store : outcome.store ≡ shown.ended.store
+  pub points : outcome.points ≡ shown.ended.points
   pub order : outcome.order ≡ shown.ended.order
   pub prefixes : outcome.prefixes ≡ shown.ended.places
   pub printed : ((outcome.status ≡ 0) × Appends old new (string_bytes shown.text)) ⊎ ((outcome.status ≡ 5) × AppendsFront old new (string_bytes shown.text) × Rose before now)
@@ -134,6 +137,9 @@ pub record HasRun (left left_now written written_now : Option (List ℕ)) (outco
   pub ended : HasEnded (tables_in script) told handed
   pub refused : ObeyTable (tables_in script) told (range_with_len 1 most_sessions)
   pub records : outcome.records ≡ handed.records
+  pub mem : outcome.mem ≡ handed.mem
+  pub store : outcome.store ≡ handed.store
+  pub points : outcome.points ≡ handed.points
   pub order : outcome.order ≡ handed.order
   pub prefixes : outcome.prefixes ≡ handed.places
   pub whole : outcome.status ≡ 0 → Appends written written_now (run_text told handed.order handed.records handed.places)

@@ -18,7 +18,8 @@ ghost use Rattle.sk_serial.specs.Running as spec;
 
 use crate::playing::{Shown, play_script};
 use crate::run_fault::RunFault;
-use sk_model::{CommitList, Outcome, PlaceList, RecordList};
+use sk_model::{CommitList, Journal, PlaceList, PointList, RecordList};
+use sk_outcome::Outcome;
 use sk_outside::{ReadError, Sink, Source, read_whole, write_whole};
 use sk_rows::NoMemory;
 use sk_run::Ended;
@@ -133,6 +134,9 @@ fn nothing(alloc: Global, status: u8) -> Outcome
     Outcome {
         status,
         records: RecordList::new(alloc),
+        mem: Journal::new(alloc),
+        store: Journal::new(alloc),
+        points: PointList::new(alloc),
         order: CommitList::new(alloc),
         prefixes: PlaceList::new(alloc),
     }
@@ -157,11 +161,16 @@ fn finish<K: Sink>(shown: Shown, sink: &mut K) -> Outcome
         records,
         order,
         places,
-        ..
+        mem,
+        store,
+        points,
     } = ended;
     Outcome {
         status,
         records,
+        mem,
+        store,
+        points,
         order,
         prefixes: places,
     }

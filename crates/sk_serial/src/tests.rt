@@ -1,5 +1,5 @@
 use super::*;
-use sk_model::Outcome;
+use sk_outcome::Outcome;
 use sk_outside::{Failed, MemSink, MemSource, Sink, Source};
 use std::alloc::{AllocError, Global};
 use std::fmt::Write;

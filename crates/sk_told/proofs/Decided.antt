@@ -24,7 +24,7 @@ use Rattle.sk_model.specs.Talks.{tx_of}
 use Rattle.sk_model.proofs.Lists.{Each}
 use Rattle.sk_model.proofs.Quiet.{step_keeps}
 use Rattle.sk_model.proofs.Listed.{some_is, none_some}
-use Rattle.sk_core.specs.Traces.{In, stamp_entry}
+use Rattle.sk_linked.specs.Traces.{In, stamp_entry}
 
 abbrev pub void_entry : Label → ℕ → Entry
 void_entry l n = record { call = call.Void l n; reply = Done }

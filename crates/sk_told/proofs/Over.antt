@@ -22,14 +22,14 @@ use Rattle.sk_model.proofs.Quiet.{step_keeps}
 use Rattle.sk_weave.specs.Points.{Climbs as Ascending, Staircase, last_from}
 use Rattle.sk_weave.specs.Registry.{Regs, IsSound, last_of}
 use Rattle.sk_weave.specs.Reads.{number_at, first_table}
-use Rattle.sk_core.specs.State.{counter as core_counter}
-use Rattle.sk_core.specs.Traces.{drawn_at, Transaction, Traces, run_of, owed, In, stamp_entry, Linked}
-use Rattle.sk_core.specs.Joining.{all_transactions}
-use Rattle.sk_core.specs.Kept.{Account, Session, Play, transaction_in, transactions_in, share_in, traces_in, IsPlay}
-use Rattle.sk_core.proofs.Members.{each_in, in_append, in_front, in_either}
-use Rattle.sk_core.proofs.Meeting.{filter_in}
-use Rattle.sk_core.proofs.Others.{used_change}
-use Rattle.sk_core.proofs.Grounds.{UseOf, uses_all, belongs}
+use Rattle.sk_linked.specs.State.{counter as core_counter}
+use Rattle.sk_linked.specs.Traces.{drawn_at, Transaction, Traces, run_of, owed, In, stamp_entry, Linked}
+use Rattle.sk_linked.specs.Joining.{all_transactions}
+use Rattle.sk_linked.specs.Kept.{Account, Session, Play, transaction_in, transactions_in, share_in, traces_in, IsPlay}
+use Rattle.sk_linked.proofs.Members.{each_in, in_append, in_front, in_either}
+use Rattle.sk_linked.proofs.Meeting.{filter_in}
+use Rattle.sk_linked.proofs.Others.{used_change}
+use Rattle.sk_linked.proofs.Grounds.{UseOf, uses_all, belongs}
 use Rattle.sk_engine.proofs.Horizons.{Climbs, horizon_climbs}
 use Rattle.sk_session.specs.declared.live.At.{At}
 use Rattle.sk_session.specs.declared.live.At.TheVariants as at

@@ -20,15 +20,15 @@ use Rattle.sk_model.specs.Talks.{Talk, calls_in, wrote}
 use Rattle.sk_model.specs.RecordTalks.{is_open, owes, left_by, steps_calls, Talks}
 use Rattle.sk_model.proofs.Lists.{Each, each_append, each_front, each_end, each_weaker}
 use Rattle.sk_weave.specs.Reads.{snapshot_at}
-use Rattle.sk_core.specs.Traces.{drawn_at, Transaction, In, IsOwn, owed_by, stamp_entry, close_entry, Drew, Linked}
-use Rattle.sk_core.specs.Conduct.{IsBacked}
-use Rattle.sk_core.specs.Joining.{Unopened, Opened, Over, in_turn, phase_after, CallsInTurn, Ends, Behaves, all_transactions}
-use Rattle.sk_core.specs.Kept.{Account, Session, Play, transaction_in, transactions_in, share_in, traces_in, IsAccount, IsPlay}
-use Rattle.sk_core.proofs.Members.{in_append, in_front, each_in, each_call, some_clash, some_same}
-use Rattle.sk_core.proofs.Telling.{calls_front}
-use Rattle.sk_core.proofs.Conduct.{talks_behave}
-use Rattle.sk_core.proofs.Kept.{sessions_are_one}
-use Rattle.sk_core.proofs.Grounds.{belongs}
+use Rattle.sk_linked.specs.Traces.{drawn_at, Transaction, In, IsOwn, owed_by, stamp_entry, close_entry, Drew, Linked}
+use Rattle.sk_linked.specs.Conduct.{IsBacked}
+use Rattle.sk_linked.specs.Joining.{Unopened, Opened, Over, in_turn, phase_after, CallsInTurn, Ends, Behaves, all_transactions}
+use Rattle.sk_linked.specs.Kept.{Account, Session, Play, transaction_in, transactions_in, share_in, traces_in, IsAccount, IsPlay}
+use Rattle.sk_linked.proofs.Members.{in_append, in_front, each_in, each_call, some_clash, some_same}
+use Rattle.sk_linked.proofs.Telling.{calls_front}
+use Rattle.sk_linked.proofs.Conduct.{talks_behave}
+use Rattle.sk_linked.proofs.Kept.{sessions_are_one}
+use Rattle.sk_linked.proofs.Grounds.{belongs}
 use Rattle.sk_told.proofs.Decided.{void_entry}
 
 -- its record says how it ended, and where it is committed each of its stamps was made

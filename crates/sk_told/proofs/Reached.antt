@@ -22,10 +22,10 @@ use Rattle.sk_model.proofs.Labels.{same_itself}
 use Rattle.sk_model.proofs.Lists.{Each, each_append, each_front}
 use Rattle.sk_model.proofs.Quiet.{step_keeps}
 use Rattle.sk_weave.specs.Reads.{first_table}
-use Rattle.sk_core.specs.Traces.{drawn_at, Transaction, Traces, run_of, owes, owed_by, owed, stamp_if, has_stamped, is_stamp, In, stamp_entry, close_entry, Drew, Linked}
-use Rattle.sk_core.proofs.Members.{in_each, each_in, in_either, in_front, in_append, unlike_same}
-use Rattle.sk_core.proofs.Meeting.{filter_in}
-use Rattle.sk_core.proofs.Grounds.{Stamper, Voider, UseOf, uses_all, belongs}
+use Rattle.sk_linked.specs.Traces.{drawn_at, Transaction, Traces, run_of, owes, owed_by, owed, stamp_if, has_stamped, is_stamp, In, stamp_entry, close_entry, Drew, Linked}
+use Rattle.sk_linked.proofs.Members.{in_each, each_in, in_either, in_front, in_append, unlike_same}
+use Rattle.sk_linked.proofs.Meeting.{filter_in}
+use Rattle.sk_linked.proofs.Grounds.{Stamper, Voider, UseOf, uses_all, belongs}
 use Rattle.sk_engine.proofs.Horizons.{Climbs, horizon_climbs}
 use Rattle.sk_told.proofs.Decided.{StampIs, stamped_each, find_in, start_stays}
 

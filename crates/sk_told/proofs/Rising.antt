@@ -7,9 +7,9 @@ use Rattle.sk_model.specs.declared.commit.Commit.{Commit}
 use Rattle.sk_model.specs.Numbers.{Rises}
 use Rattle.sk_model.specs.Stamped.{number_in}
 use Rattle.sk_model.proofs.Lists.{Each}
-use Rattle.sk_core.specs.Traces.{In}
-use Rattle.sk_core.proofs.Members.{each_in, in_each, some_same}
-use Rattle.sk_core.proofs.Commits.{past_in}
+use Rattle.sk_linked.specs.Traces.{In}
+use Rattle.sk_linked.proofs.Members.{each_in, in_each, some_same}
+use Rattle.sk_linked.proofs.Commits.{past_in}
 
 module _ (catalog : List Table) (name : EngineName) where
   -- one with a number past the first's is among the others

@@ -27,11 +27,11 @@ use Rattle.sk_model.proofs.Listed.{listed_entries, listed_start, are_commits}
 use Rattle.sk_model.proofs.Quiet.{each_map_from}
 use Rattle.sk_model.proofs.Reading.{name_stays}
 use Rattle.sk_weave.specs.Reads.{number_at, first_table}
-use Rattle.sk_core.specs.Traces.{drawn_at, Transaction, Traces, run_of, commit_in, commits_in, owed, In, stamp_entry, CommitOf, Linked}
-use Rattle.sk_core.proofs.Members.{each_in, some_clash, unlike_same}
-use Rattle.sk_core.proofs.Meeting.{filter_in}
-use Rattle.sk_core.proofs.Commits.{number_is, counts_is, counts_from, commits_each, counted_in}
-use Rattle.sk_core.proofs.Grounds.{Stamper, UseOf, all, uses_all, belongs, rising, commits_all}
+use Rattle.sk_linked.specs.Traces.{drawn_at, Transaction, Traces, run_of, commit_in, commits_in, owed, In, stamp_entry, CommitOf, Linked}
+use Rattle.sk_linked.proofs.Members.{each_in, some_clash, unlike_same}
+use Rattle.sk_linked.proofs.Meeting.{filter_in}
+use Rattle.sk_linked.proofs.Commits.{number_is, counts_is, counts_from, commits_each, counted_in}
+use Rattle.sk_linked.proofs.Grounds.{Stamper, UseOf, all, uses_all, belongs, rising, commits_all}
 use Rattle.sk_engine.proofs.Horizons.{Climbs, horizon_climbs}
 use Rattle.sk_kept.proofs.Plays.{in_map}
 use Rattle.sk_shared.specs.Joined as joined

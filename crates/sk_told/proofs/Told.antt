@@ -18,11 +18,11 @@ use Rattle.sk_weave.specs.Reads.{order_of, first_table}
 use Rattle.sk_weave.specs.Weave.{weave}
 use Rattle.sk_weave.specs.Woven.{IsWeavable}
 use Rattle.sk_weave.specs.Registry.{first_of}
-use Rattle.sk_core.specs.Traces.{drawn_at, Transaction, Traces, run_of, commits_in, In, Linked}
-use Rattle.sk_core.specs.Joining.{all_transactions}
-use Rattle.sk_core.specs.Kept.{Account, Session, Play, transaction_in, transactions_in, share_in, traces_in, IsPlay}
-use Rattle.sk_core.proofs.Members.{each_in, in_append, in_front, in_either}
-use Rattle.sk_core.proofs.Grounds.{is_run}
+use Rattle.sk_linked.specs.Traces.{drawn_at, Transaction, Traces, run_of, commits_in, In, Linked}
+use Rattle.sk_linked.specs.Joining.{all_transactions}
+use Rattle.sk_linked.specs.Kept.{Account, Session, Play, transaction_in, transactions_in, share_in, traces_in, IsPlay}
+use Rattle.sk_linked.proofs.Members.{each_in, in_append, in_front, in_either}
+use Rattle.sk_linked.proofs.Grounds.{is_run}
 use Rattle.sk_session.specs.declared.live.At.{At}
 use Rattle.sk_session.specs.declared.live.At.TheVariants as at
 use Rattle.sk_session.specs.declared.session.Session.{Session as Speaker}
@@ -37,7 +37,7 @@ use Rattle.sk_kept.specs.Running.{traces_of, traces_in as member_traces, all_tra
 use Rattle.sk_kept.specs.Sessions.{Player, member_of}
 use Rattle.sk_kept.specs.Ended.{play_of, IsPaused}
 use Rattle.sk_kept.proofs.Ended.{paused_is_one, all_is}
-use Rattle.sk_core.proofs.Kept.{sessions_are_one}
+use Rattle.sk_linked.proofs.Kept.{sessions_are_one}
 use Rattle.sk_shared.specs.Joined as joined
 use Rattle.sk_shared.specs.Joined.{recorded}
 use Rattle.sk_shared.specs.Finished.{counter, AreDecided, table_behind, run_commits}

@@ -15,9 +15,9 @@ use Rattle.sk_model.specs.declared.call.Entry.{Entry}
 use Rattle.sk_model.specs.Records.{is_committed}
 use Rattle.sk_model.specs.Talks.{Talk, calls_in, wrote}
 use Rattle.sk_model.specs.RecordTalks.{Numbered, commit_steps, steps_calls, leaves_of, is_draw_mem, is_draw_store, is_open, Talks}
-use Rattle.sk_core.specs.Traces.{drawn_at, is_stamp, has_stamped, stamp_if, owed_by}
-use Rattle.sk_core.specs.Kept.{Account, transaction_in}
-use Rattle.sk_core.proofs.Telling.{calls_front}
+use Rattle.sk_linked.specs.Traces.{drawn_at, is_stamp, has_stamped, stamp_if, owed_by}
+use Rattle.sk_linked.specs.Kept.{Account, transaction_in}
+use Rattle.sk_linked.proofs.Telling.{calls_front}
 use Rattle.sk_told.proofs.Owing.{NoneOwed}
 
 abbrev drew_at : EngineName → List StepName → Bool

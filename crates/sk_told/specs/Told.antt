@@ -9,8 +9,8 @@ use Rattle.sk_model.specs.Database.{Tables}
 use Rattle.sk_weave.specs.Reads.{Run, order_of}
 use Rattle.sk_weave.specs.Weave.{weave}
 use Rattle.sk_weave.specs.Woven.{IsWeavable}
-use Rattle.sk_core.specs.Traces.{run_of}
-use Rattle.sk_core.specs.Kept.{traces_in}
+use Rattle.sk_linked.specs.Traces.{run_of}
+use Rattle.sk_linked.specs.Kept.{traces_in}
 use Rattle.sk_session.specs.Common.{Common}
 use Rattle.sk_kept.specs.Sessions.{Player}
 use Rattle.sk_kept.specs.Ended.{play_of, IsPaused}

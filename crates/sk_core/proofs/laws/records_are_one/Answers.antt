@@ -1,5 +1,0 @@
-use Rattle.sk_core.proofs.Recorded.{records_one}
-use Rattle.sk_core.proofs.laws.records_are_one.Goals as goal
-
-pub returns : goal.returns
-returns c = records_one

@@ -1,5 +1,0 @@
-use Rattle.sk_core.proofs.Denying as denying
-use Rattle.sk_core.proofs.laws.refusals_are_caused.Goals as goal
-
-pub returns : goal.returns
-returns c = denying.refusals_are_caused

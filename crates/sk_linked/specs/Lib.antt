@@ -1,0 +1,15 @@
+pub mod Traces
+pub mod Headline
+pub mod Recorded
+pub mod Joining
+pub mod Conduct
+pub mod Causes
+pub mod Alone
+pub mod Kept
+pub mod State
+pub mod Plans
+pub mod Machine
+pub mod Lawful
+pub mod Runs
+pub mod Explaining
+pub mod Invariant

@@ -1,6 +1,0 @@
-use Rattle.std.proofs.Common.{◌≡◌, ◌++◌, drop}
-use Rattle.sk_machine.proofs.copies.same_items.Given as goal
-
--- The items so far with those to come are all.
-abbrev pub invariant-loop-item : goal.invariant-loop-item
-invariant-loop-item g l = l.out.items ++ drop l.item-index l.items ≡ l.items

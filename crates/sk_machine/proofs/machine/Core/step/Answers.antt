@@ -1,6 +1,0 @@
--- What an event is answered in a state that a run leads to.
-use Rattle.sk_machine.proofs.Reaching.{answered}
-use Rattle.sk_machine.proofs.machine.Core.step.Goals as goal
-
-pub returns-clause-answered : goal.returns-clause-answered
-returns-clause-answered c = answered c.args.self.now c.args.event.now c.take.new.self c.take.result c.is_reached.ensures c.take.ensures

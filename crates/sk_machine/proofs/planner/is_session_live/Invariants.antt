@@ -1,9 +1,0 @@
-use Rattle.std.proofs.Common.{◌≡◌, ◌&&◌, not, drop}
-use Rattle.std.specs.List.{list_any}
-use Rattle.sk_core.specs.Plans.{of_session, is_over}
-use Rattle.sk_machine.proofs.planner.is_session_live.Given as goal
-
--- None before this one is live.
-abbrev pub invariant-loop-actor : goal.invariant-loop-actor
-invariant-loop-actor l =
-    list_any (λ r. of_session l.tx r && not (is_over r.stage)) l.actors ≡ list_any (λ r. of_session l.tx r && not (is_over r.stage)) (drop l.actor-index l.actors)

@@ -1,4 +1,0 @@
-pub mod Progress
-pub mod Doing
-pub mod Reopening
-pub mod Reached
