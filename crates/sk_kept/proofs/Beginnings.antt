@@ -1,20 +1,21 @@
 -- What holds at every moment holds at first.
 use Rattle.std.specs.Prelude.{◌≡◌, ℕ, ◌<◌, ◌≤◌, List, [], ◌∷◌, None, map}
-use Rattle.std.proofs.Common.{refl, sym, ap, subst, ◌∙◌, arith}
+use Rattle.std.proofs.Common.{refl, sym, ap, subst, arith}
 use Rattle.sk_rows.specs.declared.table.Table.{Table}
 use Rattle.sk_model.specs.declared.engine.EngineName.{EngineName}
 use Rattle.sk_model.specs.declared.engine.EngineName.TheVariants.{Mem, Store}
 use Rattle.sk_model.specs.declared.point.Point.{Point}
 use Rattle.sk_model.proofs.Lists.{Each}
+use Rattle.sk_linked.specs.Joining.{MayRecords}
 use Rattle.sk_linked.specs.State.{counter}
 use Rattle.sk_weave.specs.Reads.{number_at}
 use Rattle.sk_weave.specs.AheadLaws.{counters_of}
 use Rattle.sk_weave.proofs.Aheads.{at_first}
 use Rattle.sk_session.specs.Common.{Common}
 use Rattle.sk_session.specs.EachTalk.{SessionTalks}
-use Rattle.sk_kept.specs.Held.{Trace, Caller, Held}
+use Rattle.sk_kept.specs.Held.{Called, Held}
 use Rattle.sk_kept.specs.Freshness.{Found}
-use Rattle.sk_kept.specs.Running.{Member, all_traces, Differ, IsMember, IsRunning}
+use Rattle.sk_kept.specs.Running.{Member, all_traces, Differ, IsMember}
 use Rattle.sk_kept.specs.Sessions.{Player, member_of, IsRun}
 use Rattle.sk_kept.specs.Beginnings.{new_player, IsFirst, FirstIsRun}
 
@@ -36,7 +37,8 @@ module _ (catalog : List Table) (first : Point) (c : Common) (h : IsFirst first 
     common = h.common;
     points_are = h.points;
     each = tt;
-    callers = λ name. subst (Each (Caller [])) (sym (h.journals name)) tt;
+    callers = λ name. subst (Each (Called [])) (sym (h.journals name)) tt;
+    unowned = λ name. subst (MayRecords (c.first name)) (sym (h.journals name)) tt;
     makers = tt;
     among = tt;
     once = λ x t u i k a b. absurd i;

@@ -83,7 +83,7 @@ not_yet (p ∷ qs) q s f i =
     let m : (last_from p qs).a + (last_from p qs).b < q.a + q.b = f.moves in
     absurd (omega arith)
 
-mem_after_append : (r : Regs) (p : Point) → (appended r p).mem ≡ r.mem
+pub mem_after_append : (r : Regs) (p : Point) → (appended r p).mem ≡ r.mem
 mem_after_append r p = ⊎_elim (λ (t : is_full r ≡ true). rw t refl) (λ (f : is_full r ≡ false). rw f refl) (cases_Bool (is_full r))
 
 pub store_after_append : (r : Regs) (p : Point) → (appended r p).store ≡ r.store

@@ -1,6 +1,7 @@
 pub mod Middles
 pub mod Changes
 pub mod Drawing
+pub mod Journals
 pub mod Steps
 pub mod Plays
 pub mod Glimpses
@@ -11,3 +12,4 @@ pub mod Running
 pub mod Sessions
 pub mod Ended
 pub mod Beginnings
+pub mod Flushing

@@ -1,36 +1,28 @@
 -- What holds at every moment makes what a run of sessions keeps, where each session is between two lines.
-use Rattle.std.specs.Prelude.{◌≡◌, ◌⊎◌, ℕ, List, [], ◌∷◌, Option, Some, None, Bool, true, false, length, map}
+use Rattle.std.specs.Prelude.{◌≡◌, ◌⊎◌, ℕ, List, [], ◌∷◌, Some, None, false, map}
 use Rattle.std.proofs.Common.{refl, sym, ap, subst, ◌∙◌, inl, inr, ⊎_elim}
-use Rattle.std.specs.List.{flat_map}
 use Rattle.std.proofs.lemmas.Bool.{false≢true}
-use Rattle.sk_rows.specs.Catalog.{IsCatalog}
-use Rattle.sk_model.specs.declared.label.Label.{Label}
 use Rattle.sk_model.specs.declared.engine.EngineName.{EngineName}
 use Rattle.sk_model.specs.declared.engine.EngineName.TheVariants.{Mem, Store}
 use Rattle.sk_model.specs.declared.point.Point.{Point}
-use Rattle.sk_model.specs.declared.call.EngineCall.{EngineCall}
-use Rattle.sk_model.specs.declared.call.EngineCall.TheVariants as call
 use Rattle.sk_model.specs.declared.call.Entry.{Entry}
-use Rattle.sk_model.specs.declared.record.Said.{Said}
-use Rattle.sk_model.specs.Engine.{EngineTable}
-use Rattle.sk_model.specs.Legal.{step, Legal}
+use Rattle.sk_model.specs.Legal.{Legal}
 use Rattle.sk_model.specs.Records.{same_label}
 use Rattle.sk_model.specs.Talks.{tx_of, entries_by}
-use Rattle.sk_model.specs.RecordTalks.{Talks}
 use Rattle.sk_model.proofs.Labels.{same_itself}
 use Rattle.sk_model.proofs.Lists.{Each, each_weaker}
 use Rattle.sk_weave.specs.Points.{Staircase}
-use Rattle.sk_weave.specs.Reads.{PairIf, first_table}
-use Rattle.sk_linked.specs.Traces.{drawn_at, Transaction, In, run_of, Distinct, DrewUnlike, Whose, Known, MakerOf, IsAtHorizons, PointsMade}
-use Rattle.sk_linked.specs.Joining.{Share, Counted, TablesFit, Apart, MayRecord, MayRecords, all_transactions}
-use Rattle.sk_model.specs.Texts.{texts_are_short}
-use Rattle.sk_linked.specs.Kept.{Account, Session, Play, transaction_in, transactions_in, share_in, shares_in, traces_in, IsAccount, IsPlay}
+use Rattle.sk_weave.specs.Reads.{PairIf}
+use Rattle.sk_linked.specs.Traces.{drawn_at, Transaction, In, Distinct, DrewUnlike, Whose, Known, MakerOf, IsAtHorizons, PointsMade}
+use Rattle.sk_linked.specs.Joining.{Share, Counted, MayRecords, all_transactions}
+use Rattle.sk_linked.specs.Kept.{Account, Session, Play, transaction_in, share_in, shares_in, traces_in, IsAccount, IsPlay}
 use Rattle.sk_linked.proofs.Members.{each_in, in_each, distinct_same}
 use Rattle.sk_linked.proofs.Joining.{InFlat, flat_in, in_flat, distinct_all}
 use Rattle.sk_session.specs.Common.{Common}
 use Rattle.sk_session.specs.Facts.{facts_of}
-use Rattle.sk_kept.specs.Held.{Trace, drawn_of, IsHeld, Alone, Made, Drew, Maker, Caller, Held}
+use Rattle.sk_kept.specs.Held.{Trace, drawn_of, IsHeld, Alone, Made, Drew, Maker, Caller, Called, Sourced}
 use Rattle.sk_kept.specs.Playing.{trace_of, traces_of_session, traces_of_play, IsAccounted, Plays, PlaysArePlayed}
+use Rattle.sk_kept.proofs.Journals.{horizons_stay}
 
 -- ---- members of the lists of a run
 
@@ -53,28 +45,6 @@ in_map {X = X} {Y = Y} f (y ∷ ys) x i = ⊎_elim (λ (e : x ≡ y). inl (ap f 
 each_map : {X Y : Type 0} (P : Y → Type 0) (f : X → Y) (xs : List X) → Each (λ x. P (f x)) xs → Each P (map f xs)
 each_map P f [] h = tt
 each_map P f (x ∷ xs) h = (h.0, each_map P f xs h.1)
-
--- ---- entries that ask for records
-
-may_record : (e : EngineTable) (c : EngineCall) (l : Label) → tx_of c ≡ Some l → MayRecord e c
-may_record e (call.Open tx s) l h = tt
-may_record e (call.Get tx t key) l h = tt
-may_record e (call.Scan tx t) l h = tt
-may_record e (call.Put tx t key row) l h = tt
-may_record e (call.Close tx) l h = tt
-may_record e (call.Stamp tx n) l h = tt
-may_record e (call.Void tx n) l h = tt
-may_record e (call.DropTx tx) l h = tt
-may_record e call.Horizon l h = tt
-may_record e (call.Records from to) l h = absurd (clash h)
-  where
-    clash : None ≡ Some l → ⊥
-    clash h = cc
-may_record e (call.Purge upto) l h = tt
-
-may_records : (ts : List Trace) (e : EngineTable) (js : List Entry) → Each (Caller ts) js → MayRecords e js
-may_records ts e [] h = tt
-may_records ts e (j ∷ js) h = (may_record e j.call h.0.who.facts.label h.0.is, may_records ts (step e j) js h.1)
 
 module _ (p : Play) (c : Common) (h : Plays p c) where
   -- a trace is of an account of a session, and so is a transaction
@@ -145,6 +115,12 @@ module _ (p : Play) (c : Common) (h : Plays p c) where
         made = subst (λ (t : Trace). In q t.facts.made) w.is m.made;
       }
 
+  source : (q : Point) → Sourced c.journals (traces_of_play p) q → MakerOf (all_transactions (shares_in p)) q ⊎ IsAtHorizons p.journals q
+  source q s = ⊎_elim
+      (λ (m : Maker (traces_of_play p) q). inl (maker_of q m))
+      (λ (k : IsAtHorizons c.journals q). inr (horizons_stay c.journals p.journals (λ name j i. subst (In j) (h.journals name) i) q k))
+      s
+
   made_among : (t : Transaction) → In t (all_transactions (shares_in p)) → Each (λ (q : Point). In q p.points) t.made
   made_among t i =
       let w : Of_account t = of_account t i in
@@ -163,7 +139,7 @@ module _ (p : Play) (c : Common) (h : Plays p c) where
 
   points_made : PointsMade (traces_in p)
   points_made = record {
-    source = each_weaker (Maker (traces_of_play p)) (λ (q : Point). MakerOf (all_transactions (shares_in p)) q ⊎ IsAtHorizons p.journals q) (λ q m. inl (maker_of q m)) p.points h.held.makers;
+    source = each_weaker (Sourced c.journals (traces_of_play p)) (λ (q : Point). MakerOf (all_transactions (shares_in p)) q ⊎ IsAtHorizons p.journals q) source p.points h.held.makers;
     among = in_each (λ (t : Transaction). Each (λ (q : Point). In q p.points) t.made) (all_transactions (shares_in p)) made_among;
     once = alone Made (λ (t : Transaction) (q : Point). In q t.made) (λ a q m. m) h.held.once;
   }
@@ -185,16 +161,19 @@ module _ (p : Play) (c : Common) (h : Plays p c) where
 
   -- ---- the journals
 
-  known : (ts : List Trace) → ((t : Trace) → In t ts → Whose (all_transactions (shares_in p)) t.facts.label) → (j : Entry) → Caller ts j → Known (all_transactions (shares_in p)) (tx_of j.call)
-  known ts f j k = subst (Known (all_transactions (shares_in p))) (sym k.is) (f k.who k.among)
+  known : (ts : List Trace) → ((t : Trace) → In t ts → Whose (all_transactions (shares_in p)) t.facts.label) → (j : Entry) → Called ts j → Known (all_transactions (shares_in p)) (tx_of j.call)
+  known ts f j h = ⊎_elim
+      (λ (k : Caller ts j). subst (Known (all_transactions (shares_in p))) (sym k.is) (f k.who k.among))
+      (λ (none : tx_of j.call ≡ None). subst (Known (all_transactions (shares_in p))) (sym none) tt)
+      h
 
   whose : (t : Trace) → In t (traces_of_play p) → Whose (all_transactions (shares_in p)) t.facts.label
   whose t i =
       let w : Held_by t = held_by t i in
       record { who = transaction_in w.account; among = transaction_among w.session w.among w.account w.here; is = ap (λ (x : Trace). x.facts.label) (sym w.is) }
 
-  callers : (name : EngineName) → Each (Caller (traces_of_play p)) (p.journals name)
-  callers name = subst (Each (Caller (traces_of_play p))) (h.journals name) (h.held.callers name)
+  callers : (name : EngineName) → Each (Called (traces_of_play p)) (p.journals name)
+  callers name = subst (Each (Called (traces_of_play p))) (h.journals name) (h.held.callers name)
 
   pub play : IsPlay p
   play = record {
@@ -205,8 +184,8 @@ module _ (p : Play) (c : Common) (h : Plays p c) where
     labels = h.labels;
     accounts = in_each (λ (s : Session). Each (IsAccount p) s.accounts) p.sessions (λ s i. in_each (IsAccount p) s.accounts (λ a k. account s i a k));
     legal = λ name. subst (λ e. Legal e (p.journals name)) (h.first name) (subst (Legal (c.first name)) (h.journals name) (h.held.common.legal name));
-    known = λ name. each_weaker (Caller (traces_of_play p)) (λ (j : Entry). Known (all_transactions (shares_in p)) (tx_of j.call)) (known (traces_of_play p) whose) (p.journals name) (callers name);
-    unowned = λ name. may_records (traces_of_play p) (first_table (run_of (traces_in p)) name) (p.journals name) (callers name);
+    known = λ name. each_weaker (Called (traces_of_play p)) (λ (j : Entry). Known (all_transactions (shares_in p)) (tx_of j.call)) (known (traces_of_play p) whose) (p.journals name) (callers name);
+    unowned = λ name. subst (λ e. MayRecords e (p.journals name)) (h.first name) (subst (MayRecords (c.first name)) (h.journals name) (h.held.unowned name));
     stairs = subst Staircase h.held.points_are h.held.common.sound.stairs;
     made = points_made;
     unlike = λ name. unlike_from name (all_transactions (shares_in p)) distinct (drew_alone name);

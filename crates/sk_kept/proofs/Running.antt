@@ -114,7 +114,7 @@ may_open_more r s f (wish.Store (call.Records from to)) more e l m h = tt
 may_open_more r s f (wish.Store (call.Purge upto)) more e l m h = tt
 may_open_more r s f (wish.Reg asked) more e l m h = tt
 
-may_ask_more : (c d : Common) (f : Facts) (o : Option Wish) → (more : List Point) → d.regs.points ≡ c.regs.points ++ more → c.regs.mem ≤ d.regs.mem → c.regs.store ≤ d.regs.store → MayAsk c f o → MayAsk d f o
+pub may_ask_more : (c d : Common) (f : Facts) (o : Option Wish) → (more : List Point) → d.regs.points ≡ c.regs.points ++ more → c.regs.mem ≤ d.regs.mem → c.regs.store ≤ d.regs.store → MayAsk c f o → MayAsk d f o
 may_ask_more c d f None more e l m h = tt
 may_ask_more c d f (Some asked) more e l m h = (may_open_more c.regs d.regs f asked more e l m h.0, h.1)
 

@@ -1,5 +1,5 @@
 -- A call of one transaction keeps what holds at every moment.
-use Rattle.std.specs.Prelude.{◌≡◌, ℕ, ◌<◌, ◌≤◌, List, [], ◌∷◌, ◌++◌, Option, Some, None, Bool, true, false, ◌⊎◌}
+use Rattle.std.specs.Prelude.{◌≡◌, ℕ, ◌<◌, ◌≤◌, List, [], ◌∷◌, ◌++◌, Some, None, Bool, true, false, ◌⊎◌}
 use Rattle.std.proofs.Common.{refl, sym, ap, subst, ◌∙◌, inl, inr, ⊎_elim, arith}
 use Rattle.std.specs.List.{filter}
 use Rattle.std.proofs.lemmas.Bool.{cases_lt, false≢true}
@@ -10,14 +10,16 @@ use Rattle.sk_model.specs.declared.engine.EngineName.{EngineName}
 use Rattle.sk_model.specs.declared.engine.EngineName.TheVariants.{Mem, Store}
 use Rattle.sk_model.specs.declared.point.Point.{Point}
 use Rattle.sk_model.specs.declared.call.Entry.{Entry}
+use Rattle.sk_model.specs.Legal.{after_entries}
 use Rattle.sk_model.specs.Records.{AtMost, same_label}
-use Rattle.sk_model.specs.Talks.{OwnCall, Talk, calls_in, tx_of, is_tx, is_by, entries_by}
+use Rattle.sk_model.specs.Talks.{calls_in, tx_of, is_tx, is_by, entries_by}
 use Rattle.sk_model.proofs.Labels.{same_itself, not_same_back}
 use Rattle.sk_model.proofs.Lists.{Each, each_append, each_weaker, filter_all}
 use Rattle.sk_weave.specs.AheadLaws.{counters_of}
 use Rattle.sk_weave.specs.Reads.{PairIf, number_at}
 use Rattle.sk_weave.specs.Registry.{Regs}
-use Rattle.sk_linked.specs.Traces.{In}
+use Rattle.sk_linked.specs.Traces.{In, IsAtHorizons}
+use Rattle.sk_linked.specs.Joining.{MayRecords}
 use Rattle.sk_linked.specs.State.{counter}
 use Rattle.sk_linked.proofs.Members.{each_in, in_each, in_append, in_front, in_either, each_call, some_same}
 use Rattle.sk_linked.proofs.Going.{calls_more}
@@ -25,11 +27,12 @@ use Rattle.sk_commit.specs.declared.asking.Wish.{Wish}
 use Rattle.sk_commit.specs.declared.asking.Got.{Got}
 use Rattle.sk_commit.specs.Fits.{WishFits, own_call}
 use Rattle.sk_session.specs.Common.{Common, Answered}
-use Rattle.sk_session.specs.Facts.{Facts, FitsFacts, facts_after, AreBy}
-use Rattle.sk_kept.specs.Held.{Trace, trace_after, drawn_of, Within, IsHeld, Alone, Made, Drew, Drawer, Maker, Caller, Held, MayOpen}
+use Rattle.sk_session.specs.Facts.{Facts, FitsFacts, AreBy}
+use Rattle.sk_kept.specs.Held.{Trace, trace_after, drawn_of, Within, IsHeld, Made, Drew, Drawer, Maker, Caller, Called, Sourced, Held, MayOpen}
 use Rattle.sk_kept.proofs.Middles.{in_middle, middle_other, middle_self, each_others, each_focus, each_middle, alone_moved}
 use Rattle.sk_kept.proofs.Changes.{Draws, Change, change, pair_grows, at_most_more}
 use Rattle.sk_kept.proofs.Drawing.{drew_stays}
+use Rattle.sk_kept.proofs.Journals.{own_may_record, unowned_grows, horizons_stay}
 
 -- what none pass leaves none
 pub filter_none : {X : Type 0} (p : X → Bool) (xs : List X) → Each (λ x. p x ≡ false) xs → filter p xs ≡ []
@@ -112,8 +115,14 @@ module _ (first : Point) (points : List Point) (c d : Common) (pre : List Trace)
       (λ (i : In h.who (pre ++ post)). record { who = h.who; among = middle_other h.who pre u post i; is = h.is })
       (in_middle h.who pre t post h.among)
 
-  new_caller : (j : Entry) → tx_of j.call ≡ Some t.facts.label → Caller (pre ++ u ∷ post) j
-  new_caller j e = record { who = u; among = middle_self pre u post; is = e ∙ ap Some (sym ch.label) }
+  called_stays : (j : Entry) → Called (pre ++ t ∷ post) j → Called (pre ++ u ∷ post) j
+  called_stays j h = ⊎_elim (λ (k : Caller (pre ++ t ∷ post) j). inl (caller_stays j k)) (λ (none : tx_of j.call ≡ None). inr none) h
+
+  new_called : (j : Entry) → tx_of j.call ≡ Some t.facts.label → Called (pre ++ u ∷ post) j
+  new_called j e = inl (record { who = u; among = middle_self pre u post; is = e ∙ ap Some (sym ch.label) })
+
+  unowned_stays : (name : EngineName) → MayRecords (d.first name) (d.journals name)
+  unowned_stays name = unowned_grows c d name (new name) answered.first (answered.journals name) (held.unowned name) (own_may_record (after_entries (c.first name) (c.journals name)) t.facts.label (new name) (new_calls name))
 
   made_more : (q : Point) → Made t q → Made u q
   made_more q i = subst (In q) (sym ch.gained) (in_front q t.facts.made ch.made i)
@@ -124,8 +133,14 @@ module _ (first : Point) (points : List Point) (c d : Common) (pre : List Trace)
       (λ (i : In h.who (pre ++ post)). record { who = h.who; among = middle_other h.who pre u post i; made = h.made })
       (in_middle h.who pre t post h.among)
 
-  new_maker : (q : Point) → In q ch.made → Maker (pre ++ u ∷ post) q
-  new_maker q i = record { who = u; among = middle_self pre u post; made = subst (In q) (sym ch.gained) (in_append q t.facts.made ch.made i) }
+  sourced_stays : (q : Point) → Sourced c.journals (pre ++ t ∷ post) q → Sourced d.journals (pre ++ u ∷ post) q
+  sourced_stays q h = ⊎_elim
+      (λ (k : Maker (pre ++ t ∷ post) q). inl (maker_stays q k))
+      (λ (k : IsAtHorizons c.journals q). inr (horizons_stay c.journals d.journals (λ name j i. subst (In j) (sym (answered.journals name)) (in_front j (c.journals name) (new name) i)) q k))
+      h
+
+  new_sourced : (q : Point) → In q ch.made → Sourced d.journals (pre ++ u ∷ post) q
+  new_sourced q i = inl (record { who = u; among = middle_self pre u post; made = subst (In q) (sym ch.gained) (in_append q t.facts.made ch.made i) })
 
   among_more : (qs : List Point) → Each (λ (q : Point). In q points) qs → Each (λ (q : Point). In q (points ++ ch.made)) qs
   among_more qs h = each_weaker (λ (q : Point). In q points) (λ (q : Point). In q (points ++ ch.made)) (λ q i. in_front q points ch.made i) qs h
@@ -172,10 +187,12 @@ module _ (first : Point) (points : List Point) (c d : Common) (pre : List Trace)
     common = answered.common;
     points_are = ch.points ∙ ap (λ ps. ps ++ ch.made) held.points_are;
     each = each_middle (IsHeld d) pre u post (in_each (IsHeld d) (pre ++ post) other_stays) focus_moves;
-    callers = λ name. subst (Each (Caller (pre ++ u ∷ post))) (sym (answered.journals name))
-        (each_append (Caller (pre ++ u ∷ post)) (c.journals name) (new name) (each_weaker (Caller (pre ++ t ∷ post)) (Caller (pre ++ u ∷ post)) caller_stays (c.journals name) (held.callers name))
-        (each_weaker (λ (j : Entry). tx_of j.call ≡ Some t.facts.label) (Caller (pre ++ u ∷ post)) new_caller (new name) (new_calls name)));
-    makers = each_append (Maker (pre ++ u ∷ post)) points ch.made (each_weaker (Maker (pre ++ t ∷ post)) (Maker (pre ++ u ∷ post)) maker_stays points held.makers) (in_each (Maker (pre ++ u ∷ post)) ch.made new_maker);
+    callers = λ name. subst (Each (Called (pre ++ u ∷ post))) (sym (answered.journals name))
+        (each_append (Called (pre ++ u ∷ post)) (c.journals name) (new name) (each_weaker (Called (pre ++ t ∷ post)) (Called (pre ++ u ∷ post)) called_stays (c.journals name) (held.callers name))
+        (each_weaker (λ (j : Entry). tx_of j.call ≡ Some t.facts.label) (Called (pre ++ u ∷ post)) new_called (new name) (new_calls name)));
+    unowned = unowned_stays;
+    makers = each_append (Sourced d.journals (pre ++ u ∷ post)) points ch.made (each_weaker (Sourced c.journals (pre ++ t ∷ post)) (Sourced d.journals (pre ++ u ∷ post)) sourced_stays points held.makers)
+        (in_each (Sourced d.journals (pre ++ u ∷ post)) ch.made new_sourced);
     among = each_middle (λ (v : Trace). Each (λ (q : Point). In q (points ++ ch.made)) v.facts.made) pre u post
         (each_weaker (λ (v : Trace). Each (λ (q : Point). In q points) v.facts.made) (λ (v : Trace). Each (λ (q : Point). In q (points ++ ch.made)) v.facts.made) (λ v h. among_more v.facts.made h) (pre ++ post) (each_others _ pre t post held.among))
         (subst (Each (λ (q : Point). In q (points ++ ch.made))) (sym ch.gained)

@@ -1,9 +1,8 @@
 -- The transactions of a run as far as they have come, and what holds of them, of the journals and of the registry at every moment.
-use Rattle.std.specs.Prelude.{◌≡◌, ℕ, ◌<◌, ◌≤◌, List, [], ◌∷◌, ◌++◌, Option, Some, None}
+use Rattle.std.specs.Prelude.{◌≡◌, ℕ, ◌<◌, ◌≤◌, List, ◌∷◌, ◌++◌, Option, Some, None, ◌⊎◌}
 use Rattle.std.specs.List.{AllByRecursion}
 use Rattle.sk_model.specs.declared.engine.EngineName.{EngineName}
 use Rattle.sk_model.specs.declared.engine.EngineName.TheVariants.{Mem, Store}
-use Rattle.sk_model.specs.declared.label.Label.{Label}
 use Rattle.sk_model.specs.declared.point.Point.{Point}
 use Rattle.sk_model.specs.declared.call.EngineCall.TheVariants as call
 use Rattle.sk_model.specs.declared.call.Entry.{Entry}
@@ -13,10 +12,10 @@ use Rattle.sk_weave.specs.Registry.{Regs}
 use Rattle.sk_weave.specs.AheadLaws.{Counters, counters_of}
 use Rattle.sk_weave.specs.Reads.{PairIf, number_at}
 use Rattle.sk_linked.specs.State.{counter}
-use Rattle.sk_linked.specs.Traces.{In}
+use Rattle.sk_linked.specs.Traces.{In, IsAtHorizons}
+use Rattle.sk_linked.specs.Joining.{MayRecords}
 use Rattle.sk_commit.specs.declared.asking.Wish.{Wish}
 use Rattle.sk_commit.specs.declared.asking.Wish.TheVariants as wish
-use Rattle.sk_commit.specs.declared.asking.RegistryCall.TheVariants as reg
 use Rattle.sk_commit.specs.declared.asking.Got.{Got}
 use Rattle.sk_commit.specs.Fits.{own_call}
 use Rattle.sk_session.specs.Common.{Common, IsCommon}
@@ -77,15 +76,24 @@ pub record Caller (ts : List Trace) (j : Entry) : Type 0 where
   pub among : In who ts
   pub is : tx_of j.call ≡ Some who.facts.label
 
+-- the entry is a call of one of these, or of no transaction
+abbrev pub Called : List Trace → Entry → Type 0
+Called ts j = Caller ts j ⊎ (tx_of j.call ≡ None)
+
+-- one of these made the point, or it is a cut at horizons that the engines answered
+abbrev pub Sourced : (EngineName → List Entry) → List Trace → Point → Type 0
+Sourced journals ts q = Maker ts q ⊎ IsAtHorizons journals q
+
 -- What holds at every moment, where `points` are those behind the first.
 pub record Held (first : Point) (points : List Point) (c : Common) (ts : List Trace) : Type 0 where
   pub common : IsCommon c
   pub points_are : c.regs.points ≡ first ∷ points
   pub each : AllByRecursion (IsHeld c) ts
-  -- each entry is a call of one transaction
-  pub callers : (name : EngineName) → AllByRecursion (Caller ts) (c.journals name)
-  -- each point is of the one transaction that made it
-  pub makers : AllByRecursion (Maker ts) points
+  -- each entry is a call of one transaction or of none, and records were asked for where they may be
+  pub callers : (name : EngineName) → AllByRecursion (Called ts) (c.journals name)
+  pub unowned : (name : EngineName) → MayRecords (c.first name) (c.journals name)
+  -- each point is of the one transaction that made it, or is the cut of a flush
+  pub makers : AllByRecursion (Sourced c.journals ts) points
   pub among : AllByRecursion (λ (t : Trace). AllByRecursion (λ (q : Point). In q points) t.facts.made) ts
   pub once : Alone Made ts
   -- no two drew one number, and one drew each number past the first point's, up to the counter

@@ -5,6 +5,7 @@ ghost use Rattle.sk_kept.specs.Running.{TakesKeep, AsksKeep};
 ghost use Rattle.sk_kept.specs.Playing.{PlaysArePlayed};
 ghost use Rattle.sk_kept.specs.Freshness.{FoundIsFresh};
 ghost use Rattle.sk_kept.specs.Ended.{PausedIsOne};
+ghost use Rattle.sk_kept.specs.Flushing.{FlushCallsKeep, CutsKeep};
 
 /// What holds of all sessions at every moment holds at first, where each has had no transaction.
 pub fn first_is_run()
@@ -19,6 +20,16 @@ pub fn takes_keep()
 /// A statement keeps it, whether a transaction begins with it or goes on.
 pub fn asks_keep()
     ensures { AsksKeep }
+{}
+
+/// An engine's answer to a flush or a purge keeps it, wherever the sessions stand.
+pub fn flush_calls_keep()
+    ensures { FlushCallsKeep }
+{}
+
+/// A flush's cut keeps it, and the point that it may add.
+pub fn cuts_keep()
+    ensures { CutsKeep }
 {}
 
 /// Records with their calls, of which it holds, are what a run of sessions keeps.

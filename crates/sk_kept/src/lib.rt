@@ -4,5 +4,6 @@
 mod laws;
 
 pub use laws::{
-    asks_keep, first_is_run, found_is_fresh, paused_is_one, plays_are_played, takes_keep,
+    asks_keep, cuts_keep, first_is_run, flush_calls_keep, found_is_fresh, paused_is_one,
+    plays_are_played, takes_keep,
 };
