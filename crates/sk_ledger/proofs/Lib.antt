@@ -1,0 +1,6 @@
+pub mod Noted
+pub mod Putting
+pub mod Placing
+pub mod Whole
+-- worked examples
+pub mod LedgerExamples

@@ -1,0 +1,3 @@
+pub mod Ledger
+pub mod Puts
+pub mod Numbered
