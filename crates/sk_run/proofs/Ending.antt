@@ -19,7 +19,6 @@ use Rattle.sk_model.specs.Spoken.{Outside}
 use Rattle.sk_model.specs.Talks.{Talk}
 use Rattle.sk_model.proofs.Lists.{Each}
 use Rattle.sk_weave.specs.Reads.{Run as CommitRun, order_of}
-use Rattle.sk_weave.specs.Weave.{weave}
 use Rattle.sk_linked.specs.Joining.{TablesFit, all_transactions}
 use Rattle.sk_linked.specs.Kept.{Account, Session as Spoken, Play, transaction_in, transactions_in, share_in, records_in, traces_in, IsPlay}
 use Rattle.sk_linked.specs.Traces.{run_of}
@@ -30,6 +29,7 @@ use Rattle.sk_store.specs.Begun.{no_rows}
 use Rattle.sk_store.proofs.Beginning.{none_sorted}
 use Rattle.sk_session.specs.declared.live.At.{At}
 use Rattle.sk_session.specs.declared.live.At.TheVariants as at
+use Rattle.sk_session.specs.declared.session.Session.{Session as Speaker}
 use Rattle.sk_session.specs.EachTalk.{EachTalks, SessionTalks, IsBetween}
 use Rattle.sk_session.specs.Moving.{records_at}
 use Rattle.sk_session.specs.Starting.{records_now}
@@ -38,12 +38,12 @@ use Rattle.sk_session.specs.Printed.{Prints, said_in, seat_at}
 use Rattle.sk_session.specs.Common.{Common}
 use Rattle.sk_session.proofs.Recorded.{talks_now}
 use Rattle.sk_shared.specs.Shared.{Stands}
-use Rattle.sk_shared.specs.Finished.{IsLeft, AreDecided, CanWeave, run_commits}
+use Rattle.sk_shared.specs.Finished.{IsLeft}
 use Rattle.sk_shared.specs.declared.finished.Finished.{Finished}
 use Rattle.sk_kept.specs.Sessions.{Player}
 use Rattle.sk_kept.specs.Ended.{accounts_of, session_of, play_of, AreShort, IsPaused}
 use Rattle.sk_kept.proofs.Ended.{paused_is_one}
-use Rattle.sk_told.proofs.Told.{told_is_order}
+use Rattle.sk_ledger.specs.Ledger.{IsLeftBy}
 use Rattle.sk_run.specs.Told.{RunLine, IsShort, AreTold, AreSaid, lines_of}
 use Rattle.sk_run.specs.State.{RunState}
 use Rattle.sk_run.specs.Kept.{HasKept, IsKept}
@@ -122,6 +122,10 @@ places_in run js (s ∷ ss) =
     of_one [] = refl
     of_one (a ∷ rest) = ap (λ (xs : List ℕ). place (order_of run) a.kept.mem a.kept.store ∷ xs) (of_one rest)
 
+-- the same points and records were left by the same run
+pub same_left : (p : Play) (ms ns : List Entry) (ps qs : List Point) (rs us : List Record) → ps ≡ qs → rs ≡ us → IsLeftBy p ms ns qs us → IsLeftBy p ms ns ps rs
+same_left p ms ns ps qs rs us q r l = record { is_play = l.is_play; mem_is = l.mem_is; store_is = l.store_is; points_are = q ∙ l.points_are; records_are = r ∙ l.records_are }
+
 module _ (mem : MemEngine → EngineTable → List Entry → Type 0) (store : StoreEngine → EngineTable → List Entry → Type 0) where
   -- between two lines of all its sessions
   pub paused : (lines : List RunLine) (x : RunState) (k : HasKept mem store lines x) → IsPaused x.catalog (no_rows x.catalog) k.first k.points k.common k.players
@@ -139,50 +143,62 @@ module _ (mem : MemEngine → EngineTable → List Entry → Type 0) (store : St
   abbrev played : (lines : List RunLine) (x : RunState) → HasKept mem store lines x → Play
   played lines x k = play_of x.catalog (no_rows x.catalog) k.first k.points k.common k.players
 
-  -- what its engines tell may be woven
-  pub can_weave : (x : RunState) (finished : Finished) → IsKept mem store x → ((c : Common) → Stands mem store x.shared c → IsLeft mem store finished c) → CanWeave mem store finished
-  can_weave x finished (lines, k) left = (k.common, left k.common k.stood, λ decided. (told_is_order x.catalog (no_rows x.catalog) k.first k.points k.common k.players (paused lines x k) decided).weavable)
+  -- it is what was left, with its records
+  left_by : (lines : List RunLine) (x : RunState) (k : HasKept mem store lines x) (finished : Finished) (records : List Record) → IsLeft finished k.common → records ≡ joined (map records_now x.sessions)
+      → IsLeftBy (played lines x k) finished.mem_journal finished.store_journal finished.points records
+  left_by lines x k finished records here are = record {
+    is_play = (paused_is_one x.catalog (no_rows x.catalog) k.first k.points k.common k.players (paused lines x k)).0;
+    mem_is = here.mem_entered;
+    store_is = here.store_entered;
+    points_are = here.pointed ∙ k.run.running.held.points_are;
+    records_are = are ∙ ap (λ (ss : List Speaker). joined (map records_now ss)) k.sessions_are ∙ are_kept x.catalog k.players k.run.talks k.between;
+  }
 
-  -- and its list rises
-  pub in_turn : (x : RunState) (finished : Finished) (order : List Commit) → IsKept mem store x → ((c : Common) → Stands mem store x.shared c → IsLeft mem store finished c)
-      → ((c : Common) → IsLeft mem store finished c → order ≡ weave c.regs.points (run_commits Mem c) (run_commits Store c)) → ((c : Common) → IsLeft mem store finished c → AreDecided c)
-      → InTurn (λ (c : Commit). c.mem) order × InTurn (λ (c : Commit). c.store) order
-  in_turn x finished order (lines, k) left woven decided =
-      let here : IsLeft mem store finished k.common = left k.common k.stood in
+  -- some run of sessions left this
+  pub was_left : (x : RunState) (finished : Finished) (records : List Record) → IsKept mem store x → ((c : Common) → Stands mem store x.shared c → IsLeft finished c) → records ≡ joined (map records_now x.sessions)
+      → (p : Play) × IsLeftBy p finished.mem_journal finished.store_journal finished.points records
+  was_left x finished records (lines, k) left are = (played lines x k, left_by lines x k finished records (left k.common k.stood) are)
+
+  -- the list of the run that left this
+  abbrev pub IsOrderOf : Finished → List Record → List Commit → Type 0
+  IsOrderOf finished records order = (p : Play) → IsLeftBy p finished.mem_journal finished.store_journal finished.points records → order ≡ order_of (run_of (traces_in p))
+
+  -- its list rises
+  pub in_turn : (x : RunState) (finished : Finished) (records : List Record) (order : List Commit) → IsKept mem store x → ((c : Common) → Stands mem store x.shared c → IsLeft finished c) → records ≡ joined (map records_now x.sessions)
+      → IsOrderOf finished records order → InTurn (λ (c : Commit). c.mem) order × InTurn (λ (c : Commit). c.store) order
+  in_turn x finished records order (lines, k) left are is_order =
       let one : IsPlay (played lines x k) × OneDatabase x.catalog (no_rows x.catalog) (order_of (run_of (traces_in (played lines x k)))) (map (place_of (run_of (traces_in (played lines x k)))) (traces_in (played lines x k)).transactions) (records_in (played lines x k)) =
       paused_is_one x.catalog (no_rows x.catalog) k.first k.points k.common k.players (paused lines x k) in
-      let is : order_of (run_of (traces_in (played lines x k))) ≡ order =
-      sym (woven k.common here ∙ (told_is_order x.catalog (no_rows x.catalog) k.first k.points k.common k.players (paused lines x k) (decided k.common here)).woven) in
+      let is : order_of (run_of (traces_in (played lines x k))) ≡ order = sym (is_order (played lines x k) (left_by lines x k finished records (left k.common k.stood) are)) in
       (subst (InTurn (λ (c : Commit). c.mem)) is one.1.by_mem, subst (InTurn (λ (c : Commit). c.store)) is one.1.by_store)
 
   -- so its list is that of its sessions, and what it hands out is of one database
   pub ended : (lines steps : List RunLine) (x : RunState) (finished : Finished) (y : Ended) (parts : List (List Record)) → AreSteps steps → HasKept mem store (lines ++ steps) x
-      → ((c : Common) → Stands mem store x.shared c → IsLeft mem store finished c) → ((c : Common) → IsLeft mem store finished c → y.order ≡ weave c.regs.points (run_commits Mem c) (run_commits Store c))
-      → ((c : Common) → IsLeft mem store finished c → AreDecided c) → parts ≡ map records_now x.sessions → y.records ≡ joined parts → y.places ≡ map (λ (r : Record). place y.order r.mem r.store) y.records
+      → ((c : Common) → Stands mem store x.shared c → IsLeft finished c) → IsOrderOf finished y.records y.order
+      → parts ≡ map records_now x.sessions → y.records ≡ joined parts → y.places ≡ map (λ (r : Record). place y.order r.mem r.store) y.records
       → y.mem ≡ finished.mem_journal → y.store ≡ finished.store_journal → y.points ≡ finished.points → HasEnded x.catalog lines y
-  ended lines steps x finished y parts are_steps k left woven decided parts_are records places mem_is store_is points_are =
+  ended lines steps x finished y parts are_steps k left is_order parts_are records places mem_is store_is points_are =
       let told : AreTold 1 (lines ++ steps) (map (λ (p : Player). p.session) k.players) = subst (AreTold 1 (lines ++ steps)) k.sessions_are k.told in
       let play : Play = played (lines ++ steps) x k in
       let run : CommitRun = run_of (traces_in play) in
-      let here : IsLeft mem store finished k.common = left k.common k.stood in
       let one : IsPlay play × OneDatabase x.catalog (no_rows x.catalog) (order_of run) (map (place_of run) (traces_in play).transactions) (records_in play) =
       paused_is_one x.catalog (no_rows x.catalog) k.first k.points k.common k.players (paused (lines ++ steps) x k) in
+      let by : IsLeftBy play finished.mem_journal finished.store_journal finished.points y.records = left_by (lines ++ steps) x k finished y.records (left k.common k.stood) (records ∙ ap joined parts_are) in
       let handed : parts ≡ map records_now (map (λ (p : Player). p.session) k.players) = parts_are ∙ ap (map records_now) k.sessions_are in
-      let are : y.records ≡ records_in play = records ∙ ap joined handed ∙ are_kept x.catalog k.players k.run.talks k.between in
-      let order : y.order ≡ order_of run = woven k.common here ∙ (told_is_order x.catalog (no_rows x.catalog) k.first k.points k.common k.players (paused (lines ++ steps) x k) (decided k.common here)).woven in
+      let order : y.order ≡ order_of run = is_order play by in
       let at : map (place_of run) (traces_in play).transactions ≡ y.places =
-      places_in run play.journals play.sessions ∙ ap (λ (cs : List Commit). map (λ (r : Record). place cs r.mem r.store) (records_in play)) (sym order) ∙ ap (λ (rs : List Record). map (λ (r : Record). place y.order r.mem r.store) rs) (sym are) ∙ sym places in
+      places_in run play.journals play.sessions ∙ ap (λ (cs : List Commit). map (λ (r : Record). place cs r.mem r.store) (records_in play)) (sym order) ∙ ap (λ (rs : List Record). map (λ (r : Record). place y.order r.mem r.store) rs) (sym by.records_are) ∙ sym places in
       record {
         play = play;
         is_play = one.0;
         catalog_is = refl;
         rows_are = refl;
-        mem_is = mem_is ∙ here.mem_entered;
-        store_is = store_is ∙ here.store_entered;
-        points_are = points_are ∙ here.pointed ∙ k.run.running.held.points_are;
-        records_are = are;
+        mem_is = mem_is ∙ by.mem_is;
+        store_is = store_is ∙ by.store_is;
+        points_are = points_are ∙ by.points_are;
+        records_are = by.records_are;
         order_is = order;
-        one = subst (OneDatabase x.catalog (no_rows x.catalog) y.order y.places) (sym are)
+        one = subst (OneDatabase x.catalog (no_rows x.catalog) y.order y.places) (sym by.records_are)
             (subst (λ ps. OneDatabase x.catalog (no_rows x.catalog) y.order ps (records_in play)) at
             (subst (λ cs. OneDatabase x.catalog (no_rows x.catalog) cs (map (place_of run) (traces_in play).transactions) (records_in play)) (sym order) one.1));
         steps = steps;

@@ -1,9 +1,11 @@
 //! A run of sessions on one thread, line by line: what it hands out is of one database.
 #![tactic(auto)]
 
+mod end_fault;
 mod ended;
 mod run;
 
+pub use end_fault::EndFault;
 pub use ended::Ended;
 pub use run::Run;
 

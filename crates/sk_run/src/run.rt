@@ -9,14 +9,16 @@ ghost use Rattle.sk_run.specs.Told.{IsShort, AreRefused};
 ghost use Rattle.sk_run.specs.Kept.{IsKnown, HasKept, KeepsOn, RefusesOn};
 ghost use Rattle.sk_run.specs.Ended.{joined, Settles, HandsOut, Ends};
 
+use crate::end_fault::EndFault;
 use crate::ended::Ended;
 use sk_chain::Engine;
+use sk_ledger::order;
 use sk_mem::MemEngine;
 use sk_model::{ErrWord, Point, RecordList, Reply};
 use sk_places::places;
 use sk_rows::{Catalog, NoMemory, Statement};
 use sk_session::{Session, Unanswered, converse, leave_with};
-use sk_shared::{Finished, OrderFault, Shared};
+use sk_shared::{Finished, Shared};
 use sk_store::StoreEngine;
 use std::alloc::Global;
 use std::marker::Model;
@@ -198,17 +200,17 @@ impl Run {
     }
 
     /// Ends all sessions, and hands out what the run has come to. It is refused for memory; and where a call that ends a session could not be answered.
-    pub fn finish(self, alloc: Global) -> Result<Ended, OrderFault>
+    pub fn finish(self, alloc: Global) -> Result<Ended, EndFault>
         ensures { IfOk result (λ x. Ends ⟦<MemEngine as Engine>⟧.stands ⟦<StoreEngine as Engine>⟧.stands self x) }
     {
         match self.settle_all(alloc) {
             Ok(run) => run.hand_out(alloc),
-            Err(Unanswered) => Err(OrderFault::Undecided),
+            Err(Unanswered) => Err(EndFault::Unanswered),
         }
     }
 
     /// What the run has come to.
-    fn hand_out(self, alloc: Global) -> Result<Ended, OrderFault>
+    fn hand_out(self, alloc: Global) -> Result<Ended, EndFault>
         ensures { IfOk result (λ x. HandsOut ⟦<MemEngine as Engine>⟧.stands ⟦<StoreEngine as Engine>⟧.stands self x) }
     {
         let Run {
@@ -217,18 +219,23 @@ impl Run {
             ..
         } = self;
         let records = records_of(alloc, sessions)?;
-        let mut finished = shared.into_parts();
-        let order = finished.order(alloc)?;
-        if order.len() > u32::MAX as usize {
-            return Err(OrderFault::NoMemory);
-        }
-        let places = places(alloc, order.as_slice(), records.as_slice())?;
         let Finished {
             mem_journal,
             store_journal,
             points,
             ..
-        } = finished;
+        } = shared.into_parts();
+        let order = order(
+            alloc,
+            &mem_journal,
+            &store_journal,
+            points.as_slice(),
+            records.as_slice(),
+        )?;
+        if order.len() > u32::MAX as usize {
+            return Err(EndFault::NoMemory);
+        }
+        let places = places(alloc, order.as_slice(), records.as_slice())?;
         Ok(Ended {
             records,
             order,

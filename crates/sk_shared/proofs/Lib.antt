@@ -4,6 +4,5 @@ pub mod Logging
 pub mod Entries
 -- what the sessions share, behind an answer
 pub mod Answering
--- the commits at the end
-pub mod Numbered
-pub mod Order
+-- what is left at the end
+pub mod Leaving

@@ -2,5 +2,4 @@ pub mod Logged
 pub mod Kept
 pub mod Pair
 pub mod Shared
-pub mod Joined
 pub mod Finished

@@ -4,14 +4,10 @@
 mod asking;
 mod engines;
 mod finished;
-mod joining;
-mod order_fault;
 mod point_log;
-mod recording;
 mod shared;
 
 pub use finished::Finished;
-pub use order_fault::OrderFault;
 pub use shared::Shared;
 
 #[cfg(test)]

@@ -49,18 +49,16 @@ impl Shared {
 
     /// What is left when no session goes on.
     pub fn into_parts(self) -> Finished
-        ensures { (c : Common) → Stands ⟦<MemEngine as Engine>⟧.stands ⟦<StoreEngine as Engine>⟧.stands self c → IsLeft ⟦<MemEngine as Engine>⟧.stands ⟦<StoreEngine as Engine>⟧.stands result c }
+        ensures { (c : Common) → Stands ⟦<MemEngine as Engine>⟧.stands ⟦<StoreEngine as Engine>⟧.stands self c → IsLeft result c }
     {
         let Shared { engines, log } = self;
         let (mem, store) = engines.into_parts();
-        let (mem, mem_journal) = mem.into_parts();
-        let (store, store_journal) = store.into_parts();
+        let (_, mem_journal) = mem.into_parts();
+        let (_, store_journal) = store.into_parts();
         let (mem_counter, store_counter, points) = log.into_parts();
         Finished {
-            mem,
             mem_journal,
             mem_counter,
-            store,
             store_journal,
             store_counter,
             points,
