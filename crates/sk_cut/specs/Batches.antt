@@ -1,5 +1,6 @@
 -- A batch of commits, and its bytes.
 use Rattle.std.specs.Prelude.{◌≡◌, ℕ, ◌<◌, ◌≤◌, ◌^◌, ◌+◌, Bool, ◌==◌, ◌&&◌, true, List, length, get_or, All, Option, Some, None, nat_lt, if◌then◌else◌}
+use Rattle.std.specs.List.{AllByRecursion}
 use Rattle.sk_model.specs.declared.point.Point.{Point}
 use Rattle.sk_model.specs.declared.receipt.FlushFault.{FlushFault}
 use Rattle.sk_model.specs.declared.receipt.FlushFault.TheVariants as fault
@@ -28,6 +29,11 @@ body_text ends b = body_bytes b.cut (ends.store_end + length (stored_text b)) b.
 pub record CanBeSpelled (b : Batch) : Type 0 where
   pub mem : All IsSpellable b.mem
   pub store : All IsSpellable b.store
+
+-- four bytes can count the writes of each commit
+pub record CanBeCounted (b : Batch) : Type 0 where
+  pub mem : AllByRecursion (λ c. length c.writes < 2 ^ 32) b.mem
+  pub store : AllByRecursion (λ c. length c.writes < 2 ^ 32) b.store
 
 -- the length of the first log that would be too long, the storage log's first
 abbrev pub full_length : ℕ → Ends → List ℕ → List ℕ → Option ℕ

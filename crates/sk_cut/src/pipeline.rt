@@ -34,6 +34,7 @@ pub struct Batch {
 ///
 /// Contracts see its `View`: the disk, where the logs end, the longest that a log may get in bytes, the durable cut, who waits in
 /// which order, for how many more there is room, and whether the device has failed.
+#[derive(Drop)]
 pub struct Pipeline<D: Device, F: Teller + Drop> {
     alloc: Global,
     disk: D,
@@ -64,7 +65,8 @@ impl<D: Device, F: Teller + Drop> Model for Pipeline<D, F> {
         × AreOnce (labels_of s.waiting.items) };
 }
 
-fn same_cut(a: &Point, b: &Point) -> bool
+/// Whether the two cuts have the same numbers.
+pub fn same_cut(a: &Point, b: &Point) -> bool
     ensures { result ≡ same_cut a.now b.now }
 {
     a.a == b.a && a.b == b.b
@@ -118,7 +120,7 @@ impl<D: Device, F: Teller + Drop> Pipeline<D, F> {
     /// Makes the batch durable, where its cut is a new one.
     fn advance(&mut self, batch: &Batch) -> Result<(), FlushFault>
         requires open { self.old.broken ≡ false }
-        requires spelled { CanBeSpelled batch.now }
+        requires spelled { same_cut batch.now.cut self.old.cut ≡ false → CanBeSpelled batch.now }
         // Behind what each image holds, the batch is a group that an opened store obeys.
         requires lawful { IsTrue (D.disk).tells → same_cut batch.now.cut self.old.cut ≡ false → IsLawful D.disk self.old.disk self.old.cut batch.now }
         ensures any_moment { IsTrue (D.disk).tells → Steps D.disk (AtMostGrows self.old.ends batch.now) self.old.disk self.new.disk }
@@ -131,6 +133,7 @@ impl<D: Device, F: Teller + Drop> Pipeline<D, F> {
         ensures full { IfErr result (λ e. same_cut batch.now.cut self.old.cut ≡ false → Refuses (full_length self.old.logmax self.old.ends (stored_text batch.now) (body_text self.old.ends batch.now)) e) }
         ensures fits { OnOk result (same_cut batch.now.cut self.old.cut ≡ false → full_length self.old.logmax self.old.ends (stored_text batch.now) (body_text self.old.ends batch.now) ≡ None) }
         ensures refused { IfErr result (λ e. e ≢ fault.Device → self.new ≡ self.old) }
+        ensures same { OnErr result (self.new.cut ≡ self.old.cut) }
         ensures broken { result ≡ Err fault.Device → self.new.broken ≡ true }
         ensures failed { result ≡ Err fault.Device → Rose (D.faults self.old.disk) (D.faults self.new.disk) }
         ensures later { D.faults self.old.disk ≤ D.faults self.new.disk }
@@ -164,11 +167,11 @@ impl<D: Device, F: Teller + Drop> Pipeline<D, F> {
     }
 
     /// Makes the batch durable, and answers the receipts of the waiters that its cut covers, in the order in which they were queued;
-    /// they wait no longer. Where its cut is the durable one, the disk is left alone. After `LogFull` and `NoMemory` nothing has
-    /// changed; after `Device` the pipeline is broken for good.
+    /// they wait no longer. Where its cut is the durable one, the disk is left alone, and the batch's commits do not count. After
+    /// `LogFull` and `NoMemory` nothing has changed; after `Device` the pipeline is broken for good, and nobody was told.
     pub fn flush(&mut self, batch: &Batch) -> Result<ReceiptList, FlushFault>
         requires open { self.old.broken ≡ false }
-        requires spelled { CanBeSpelled batch.now }
+        requires spelled { same_cut batch.now.cut self.old.cut ≡ false → CanBeSpelled batch.now }
         // Behind what each image holds, the batch is a group that an opened store obeys.
         requires lawful { IsTrue (D.disk).tells → same_cut batch.now.cut self.old.cut ≡ false → IsLawful D.disk self.old.disk self.old.cut batch.now }
         // At each moment of the call an image opens as one from before, or as it with the batch's group.
@@ -188,6 +191,8 @@ impl<D: Device, F: Teller + Drop> Pipeline<D, F> {
         ensures full { IfErr result (λ e. same_cut batch.now.cut self.old.cut ≡ false → Refuses (full_length self.old.logmax self.old.ends (stored_text batch.now) (body_text self.old.ends batch.now)) e) }
         ensures fits { OnOk result (same_cut batch.now.cut self.old.cut ≡ false → full_length self.old.logmax self.old.ends (stored_text batch.now) (body_text self.old.ends batch.now) ≡ None) }
         ensures refused { IfErr result (λ e. e ≢ fault.Device → self.new ≡ self.old) }
+        // Without Ok nobody was told.
+        ensures told { OnErr result ((self.new.waiting ≡ self.old.waiting) × (self.new.cut ≡ self.old.cut)) }
         ensures broken { result ≡ Err fault.Device → self.new.broken ≡ true }
         ensures failed { result ≡ Err fault.Device → Rose (D.faults self.old.disk) (D.faults self.new.disk) }
         ensures later { D.faults self.old.disk ≤ D.faults self.new.disk }
