@@ -9,6 +9,10 @@ pub mod Pairs
 pub mod Turning
 -- the rows behind the commits
 pub mod Entries
+-- rows that are read fit their tables, and still do behind what is written
+pub mod RowsFit
+pub mod LogsFit
+pub mod StateFit
 -- making a new store, and what is opened
 pub mod Sound
 pub mod Roots

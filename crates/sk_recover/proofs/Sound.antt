@@ -1,6 +1,6 @@
 -- What an opened store obeys, whatever its device tells.
-use Rattle.std.proofs.Common.{◌≡◌, ◌≢◌, ◌≤◌, ◌<◌, ℕ, zero, suc, Bool, true, false, List, [], ◌∷◌, ◌++◌, length, map, Option, Some, None, Result, Ok, Err, refl, sym, ap, subst, ◌∙◌, inl, inr}
-use Rattle.std.specs.Prelude.{T, not, IfOk}
+use Rattle.std.proofs.Common.{◌≡◌, ◌≤◌, ◌+◌, ℕ, zero, suc, true, false, List, [], ◌∷◌, ◌++◌, length, Option, Some, None, Result, Ok, refl, sym, ap, subst, ◌∙◌, inl, inr}
+use Rattle.std.specs.Prelude.{T, not}
 use Rattle.std.specs.declared.cmp.Ordering.TheVariants.{Less}
 use Rattle.std.specs.Ordering.{eq_by_cmp}
 use Rattle.std.specs.Int.{w32, w64}
@@ -14,21 +14,28 @@ use Rattle.std.proofs.lemmas.Float.{T_from_true}
 use Rattle.std.proofs.lemmas.List.{get_or_past, get_or-set_same, get_or-set_other, length-set}
 use Rattle.sk_rows.specs.declared.value.Value.{Value}
 use Rattle.sk_rows.specs.declared.table.Table.{Table}
+use Rattle.sk_rows.specs.Catalog.{IsCatalog}
 use Rattle.sk_rows.specs.Values.{value_cmp}
 use Rattle.sk_rows.specs.Orders.{value_cmp_total}
 use Rattle.sk_model.specs.declared.commit.Write.{Write}
 use Rattle.sk_model.specs.declared.commit.Commit.{Commit}
-use Rattle.sk_model.specs.declared.point.Point.{Point}
 use Rattle.sk_model.specs.Database.{RowOf, KeyedRows, Tables, rows_with, table_of, after_write, after_writes, after_commit, state}
 use Rattle.sk_codec.specs.declared.fault.Fault.{Fault}
 use Rattle.sk_codec.specs.declared.fault.What.TheVariants as what
 use Rattle.sk_codec.specs.Reading.{Rest, ◌>>=◌, number_at, number_in}
 use Rattle.sk_model.specs.Numbers.{greatest_number}
 use Rattle.sk_codec.proofs.Parts.{bind_ok, ok_is}
-use Rattle.sk_log.specs.Images.{rows_at, each_at, all_rows_at}
-use Rattle.sk_log.specs.Stores.{Root, byte_in, entry_at, no_rows}
+use Rattle.sk_model.specs.Resembling.{CommitFits}
+use Rattle.sk_model.proofs.Lists.{each_append}
+use Rattle.sk_log.specs.Calls.{image_file}
+use Rattle.sk_log.specs.Images.{rows_at, each_at, all_rows_at, Base, base_at}
+use Rattle.sk_log.specs.Stores.{Root, Reached, begun, byte_in, entry_at, no_rows, opened, rows_of, turns}
+use Rattle.sk_log.proofs.Turns.{lies}
 use Rattle.sk_recover.specs.Taking.{Rise}
-use Rattle.sk_recover.specs.Opened.{AreOrdered}
+use Rattle.sk_recover.specs.Opened.{AllFit, AreOrdered}
+use Rattle.sk_recover.proofs.RowsFit.{base_fits}
+use Rattle.sk_recover.proofs.LogsFit.{CommitsFit, turns_fit}
+use Rattle.sk_recover.proofs.StateFit.{state_fits}
 
 -- ---- counts
 
@@ -108,6 +115,20 @@ none_ordered (table ∷ tables) (suc t) = none_ordered tables t
 pub none_counted : (tables : List Table) → length (no_rows tables) ≡ length tables
 none_counted [] = refl
 none_counted (table ∷ tables) = ap suc (none_counted tables)
+
+-- ---- rows that fit
+
+-- what a store opens with fits its tables
+pub stored_fits : (root : Root) (base one two : List ℕ) (b : Base) (t : Reached) → base_at (image_file root.set) base root.size ≡ Ok b → turns (length two + 1) one two (begun root b) ≡ Ok t → IsCatalog b.catalog
+    → AllFit b.catalog (rows_of (opened b t))
+stored_fits root base one two b t is_base is_last is =
+    let first : CommitsFit (begun root b) = record { mem = tt; store = tt } in
+    let fit = turns_fit (length two + 1) one two (begun root b) t is_last first in
+    let same : t.catalog ≡ b.catalog = (lies (length two + 1) one two (begun root b) t is_last).catalog in
+    let order = t.mem ++ t.store in
+    let written : AllByRecursion (CommitFits b.catalog) order =
+    subst (λ (tables : List Table). AllByRecursion (CommitFits tables) order) same (each_append (CommitFits t.catalog) t.mem t.store fit.mem fit.store) in
+    state_fits b.catalog order b.rows written (base_fits (image_file root.set) base root.size b is_base is.good)
 
 -- ---- the root
 

@@ -3,9 +3,11 @@ use Rattle.std.specs.Prelude.{◌≡◌, ℕ, ◌+◌, ◌<◌, ◌≤◌, Bool,
 use Rattle.std.specs.List.{AllByRecursion}
 use Rattle.std.specs.FinMap.{is_sorted}
 use Rattle.sk_device.specs.Disk.{Image}
+use Rattle.sk_rows.specs.declared.value.Value.{Value}
 use Rattle.sk_rows.specs.Values.{value_cmp}
-use Rattle.sk_model.specs.Database.{Tables, table_of}
+use Rattle.sk_model.specs.Database.{RowOf, Tables, table_of}
 use Rattle.sk_model.specs.Numbers.{greatest_number}
+use Rattle.sk_model.specs.Resembling.{RowFits}
 use Rattle.sk_codec.specs.declared.fault.Fault.{Fault}
 use Rattle.sk_codec.specs.declared.fault.ReadFault.{ReadFault}
 use Rattle.sk_codec.specs.declared.fault.ReadFault.TheVariants as read_fault
@@ -84,17 +86,23 @@ AnswersOpens catalog start image (Ok any.Fresh) = opens catalog start image ≡ 
 AnswersOpens catalog start image (Ok (any.Stored s)) = opens catalog start image ≡ Ok (opening_of s)
 AnswersOpens catalog start image (Err e) = Refuses e (opens catalog start image)
 
+-- each of these rows fits its table and begins with its key
+abbrev pub AllFit : List Table → Tables → Type 0
+AllFit tables rows = (t : ℕ) → AllByRecursion (λ (r : Value × RowOf). RowFits tables t r.0 (Some r.1)) (table_of rows t)
+
 -- what holds of a store that was read, whatever its device tells
 pub record IsStored (s : Stored) : Type 0 where
   pub rise : AllByRecursion Rise s.rows.items
   pub count : length s.rows.items ≡ length s.catalog
   pub reached : IsReached s.reached
+  pub fit : AllFit s.catalog (rows_of (opening_of s))
 
 -- of each table the keys of the rows rise
 abbrev pub AreOrdered : Tables → Type 0
 AreOrdered rows = (t : ℕ) → T (is_sorted value_cmp (table_of rows t))
 
--- What an opened store obeys, whatever its device tells: a set of files, a cut that is a selection, and rows of each table in order.
+-- What an opened store obeys, whatever its device tells: a set of files, a cut that is a selection, and rows of each table that are in
+-- order and fit it.
 pub record IsSound (o : Opened) : Type 0 where
   pub set : o.ends.set < 2
   pub selection : o.cut.commit ≡ false
@@ -102,6 +110,7 @@ pub record IsSound (o : Opened) : Type 0 where
   pub store : o.cut.b ≤ greatest_number
   pub count : length o.rows ≡ length o.catalog
   pub ordered : AreOrdered o.rows
+  pub fit : AllFit o.catalog o.rows
 
 -- the store has the tables, the rows, the cut and the ends of this opening
 pub record IsOpened (o : Opened) (p : Opening) : Type 0 where

@@ -327,7 +327,8 @@ pub fn open<D: Device>(
     ensures stands { IsTrue (D.disk).tells → IfOk result (λ o. AllImages D.disk (IsOpenedAs o) disk.new) }
     // So a pipeline can begin with it: every image opens at its cut and with its ends.
     ensures begins { IsTrue (D.disk).tells → IfOk result (λ o. AllImages D.disk (OpensAt (selection o.cut.a o.cut.b) o.ends) disk.new) }
-    // Whatever the device tells, it has a set of files, a selection for a cut, and rows of each table in the order of their keys.
+    // Whatever the device tells, it has a set of files, a selection for a cut, and rows of each table that are in the order of their
+    // keys and fit it.
     ensures sound { IfOk result (λ o. IsSound o) }
     ensures failed { result ≡ Err fault.Device → Rose (D.faults disk.old) (D.faults disk.new) }
     ensures later { D.faults disk.old ≤ D.faults disk.new }
