@@ -1,5 +1,5 @@
 //! The store of a run.
-ghost use Rattle.std.specs.Prelude.{◌≡◌, ◌≢◌, ◌<◌, ◌≤◌, ◌+◌, ◌-◌, ◌++◌, ◌∷◌, ◌&&◌, [], true, false, not, IsTrue, OnOk, OnErr, IfOk, IfErr, Some, None, Ok, Err, length, map, get_or, nat_le, nat_lt, vec_len, vec_capacity};
+ghost use Rattle.std.specs.Prelude.{◌≡◌, ◌≢◌, ◌<◌, ◌≤◌, ◌+◌, ◌-◌, ◌++◌, ◌∷◌, ◌&&◌, [], true, false, not, IsTrue, OnOk, OnErr, IfOk, IfErr, Some, None, Ok, Err, length, map, max, get_or, nat_le, nat_lt, vec_len, vec_capacity};
 ghost use Rattle.std.specs.List.{filter};
 ghost use Rattle.sk_outside.specs.Causes.{Rose};
 ghost use Rattle.sk_device.specs.Disk.{Steps};
@@ -123,18 +123,21 @@ impl<D: Device, F: Teller + Drop> Durable<D, F> {
         }
     }
 
-    /// Reserves one more place for a need, and for its receipt.
+    /// Sees to it that a place is reserved for a need, and for its receipt. Where there is one already it takes no memory.
     pub fn reserve(&mut self) -> Result<(), NoMemory>
-        ensures more { OnOk result (self.new ≡ record self.old { reserved = self.old.reserved + 1 }) }
+        ensures more { OnOk result (self.new ≡ record self.old { reserved = max 1 self.old.reserved }) }
         ensures same { OnErr result (self.new ≡ self.old) }
+        ensures none { 0 < self.old.reserved → result ≡ Ok tt }
     {
-        let places = self.reserved.checked_add(1).ok_or(NoMemory)?;
+        if self.reserved > 0 {
+            return Ok(());
+        }
         let waiting = self.queued.len() - self.receipts.len();
-        let owed = waiting.checked_add(places).ok_or(NoMemory)?;
-        self.queued.reserve(places)?;
+        let owed = waiting.checked_add(1).ok_or(NoMemory)?;
+        self.queued.reserve(1)?;
         self.receipts.reserve(owed)?;
         self.pipeline.reserve()?;
-        self.reserved = places;
+        self.reserved = 1;
         Ok(())
     }
 
