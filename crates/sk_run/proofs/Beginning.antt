@@ -1,4 +1,4 @@
--- A run of sessions that have had no transaction, over what begins without rows.
+-- A run of sessions that have had no transaction, over what begins with some rows.
 use Rattle.std.specs.Prelude.{◌≡◌, ℕ, zero, suc, ◌+◌, ◌<◌, List, [], ◌∷◌, map, length, false, ◌==◌}
 use Rattle.std.specs.List.{range_with_len}
 use Rattle.std.proofs.Common.{refl, sym, ap, subst, ◌∙◌, arith}
@@ -10,16 +10,16 @@ use Rattle.sk_model.specs.declared.engine.EngineName.{EngineName}
 use Rattle.sk_model.specs.declared.engine.EngineName.TheVariants.{Mem, Store}
 use Rattle.sk_model.specs.declared.point.Point.{Point}
 use Rattle.sk_model.specs.declared.call.Entry.{Entry}
+use Rattle.sk_model.specs.Database.{Tables}
 use Rattle.sk_model.specs.Engine.{EngineTable, engine_at}
 use Rattle.sk_model.proofs.Lists.{Each}
 use Rattle.sk_weave.specs.Reads.{number_at}
 use Rattle.sk_mem.specs.declared.engine.MemEngine.{MemEngine}
 use Rattle.sk_store.specs.declared.engine.StoreEngine.{StoreEngine}
-use Rattle.sk_store.specs.Begun.{no_rows}
+use Rattle.sk_store.specs.Loading.{AreOpeningRows}
 use Rattle.sk_session.specs.declared.session.Session.{Session}
 use Rattle.sk_session.specs.EachTalk.{IsBetween}
 use Rattle.sk_session.specs.Starting.{fresh}
-use Rattle.sk_session.specs.Common.{Common}
 use Rattle.sk_session.proofs.Printing.{new_printed}
 use Rattle.sk_shared.specs.Shared.{Stands, first_common}
 use Rattle.sk_kept.specs.Running.{Differ}
@@ -51,23 +51,24 @@ all_told k zero = tt
 all_told k (suc n) = (refl, new_printed (fresh k) k refl, all_told (k + 1) n)
 
 -- what an engine begins with
-begins_at : (catalog : List Table) (partitions size : ℕ) (start : Point) (name : EngineName) → (first_common catalog partitions size start).first name ≡ engine_at name catalog (no_rows catalog) (number_at name start)
-begins_at catalog partitions size start Mem = refl
-begins_at catalog partitions size start Store = refl
+begins_at : (catalog : List Table) (rows : Tables) (partitions size : ℕ) (start : Point) (name : EngineName) → (first_common catalog rows partitions size start).first name ≡ engine_at name catalog rows (number_at name start)
+begins_at catalog rows partitions size start Mem = refl
+begins_at catalog rows partitions size start Store = refl
 
 module _ (mem : MemEngine → EngineTable → List Entry → Type 0) (store : StoreEngine → EngineTable → List Entry → Type 0) where
-  pub kept_first : (partitions size n : ℕ) (start : Point) (x : RunState) → n < 65536 → IsCatalog x.catalog → Stands mem store x.shared (first_common x.catalog partitions size start) → x.sessions ≡ map fresh (range_with_len 1 n) → HasKept mem store [] x
-  kept_first partitions size n start x few tables stood sessions = record {
+  pub kept_first : (rows : Tables) (partitions size n : ℕ) (start : Point) (x : RunState) → n < 65536 → IsCatalog x.catalog → AreOpeningRows x.catalog rows → Stands mem store x.shared (first_common x.catalog rows partitions size start) → x.sessions ≡ map fresh (range_with_len 1 n) → HasKept mem store rows [] x
+  kept_first rows partitions size n start x few tables opening stood sessions = record {
     tables = tables;
+    opening = opening;
     few = subst (λ m. m < 65536) (sym (ap length sessions ∙ length-map-range_with_len fresh 1 n)) few;
-    common = first_common x.catalog partitions size start;
+    common = first_common x.catalog rows partitions size start;
     stood = stood;
     first = start;
-    begun = begins_at x.catalog partitions size start;
+    begun = begins_at x.catalog rows partitions size start;
     points = [];
     players = map new_player (range_with_len 1 n);
     sessions_are = sessions ∙ players_are 1 n;
-    run = first_is_run x.catalog start (first_common x.catalog partitions size start) (range_with_len 1 n) (record { common = stood.common; journals = λ name. refl; points = refl; mem = refl; store = refl }) (numbers_differ 1 n);
+    run = first_is_run x.catalog start (first_common x.catalog rows partitions size start) (range_with_len 1 n) (record { common = stood.common; journals = λ name. refl; points = refl; mem = refl; store = refl }) (numbers_differ 1 n);
     between = all_between 1 n;
     told = subst (AreTold 1 []) (sym sessions) (all_told 1 n);
     short = tt;

@@ -1,17 +1,15 @@
 -- What a run hands out is of one run of sessions, and of one database.
-use Rattle.std.specs.Prelude.{◌≡◌, ℕ, ◌+◌, zero, suc, List, [], ◌∷◌, ◌++◌, true, length, map}
+use Rattle.std.specs.Prelude.{◌≡◌, ℕ, ◌+◌, List, [], ◌∷◌, ◌++◌, map}
 use Rattle.std.specs.List.{flat_map}
 use Rattle.std.proofs.Common.{refl, sym, ap, subst, ◌∙◌}
-use Rattle.std.proofs.lemmas.List.{map-append, length-map}
-use Rattle.sk_rows.specs.declared.value.Value.{Value}
+use Rattle.std.proofs.lemmas.List.{map-append}
 use Rattle.sk_rows.specs.declared.table.Table.{Table}
 use Rattle.sk_model.specs.declared.engine.EngineName.{EngineName}
-use Rattle.sk_model.specs.declared.engine.EngineName.TheVariants.{Mem, Store}
 use Rattle.sk_model.specs.declared.commit.Commit.{Commit}
 use Rattle.sk_model.specs.declared.point.Point.{Point}
 use Rattle.sk_model.specs.declared.record.Record.{Record}
 use Rattle.sk_model.specs.declared.call.Entry.{Entry}
-use Rattle.sk_model.specs.Database.{RowOf, KeyedRows, Tables, table_of}
+use Rattle.sk_model.specs.Database.{Tables}
 use Rattle.sk_model.specs.Engine.{EngineTable}
 use Rattle.sk_model.specs.Places.{place}
 use Rattle.sk_model.specs.Records.{InTurn, OneDatabase}
@@ -19,14 +17,12 @@ use Rattle.sk_model.specs.Spoken.{Outside}
 use Rattle.sk_model.specs.Talks.{Talk}
 use Rattle.sk_model.proofs.Lists.{Each}
 use Rattle.sk_weave.specs.Reads.{Run as CommitRun, order_of}
-use Rattle.sk_linked.specs.Joining.{TablesFit, all_transactions}
+use Rattle.sk_linked.specs.Joining.{all_transactions}
 use Rattle.sk_linked.specs.Kept.{Account, Session as Spoken, Play, transaction_in, transactions_in, share_in, records_in, traces_in, IsPlay}
 use Rattle.sk_linked.specs.Traces.{run_of}
 use Rattle.sk_linked.specs.Headline.{place_of}
 use Rattle.sk_mem.specs.declared.engine.MemEngine.{MemEngine}
 use Rattle.sk_store.specs.declared.engine.StoreEngine.{StoreEngine}
-use Rattle.sk_store.specs.Begun.{no_rows}
-use Rattle.sk_store.proofs.Beginning.{none_sorted}
 use Rattle.sk_session.specs.declared.live.At.{At}
 use Rattle.sk_session.specs.declared.live.At.TheVariants as at
 use Rattle.sk_session.specs.declared.session.Session.{Session as Speaker}
@@ -50,20 +46,6 @@ use Rattle.sk_run.specs.Kept.{HasKept, IsKept}
 use Rattle.sk_run.specs.Ended.{AreSteps, joined, HasEnded}
 use Rattle.sk_run.specs.declared.ended.Ended.{Ended}
 use Rattle.sk_run.proofs.Lines.{lines_short, prints_short, records_short}
-
--- ---- tables without rows
-
-no_table : (catalog : List Table) (t : ℕ) → table_of (no_rows catalog) t ≡ []
-no_table [] t = refl
-no_table (c ∷ cs) zero = refl
-no_table (c ∷ cs) (suc t) = no_table cs t
-
-none_fit : (catalog : List Table) → TablesFit catalog (no_rows catalog)
-none_fit catalog t = subst (Each _) (sym (no_table catalog t)) tt
-
-no_rows_length : (catalog : List Table) → length (no_rows catalog) ≡ length catalog
-no_rows_length [] = refl
-no_rows_length (c ∷ cs) = ap suc (no_rows_length cs)
 
 -- ---- one session
 
@@ -128,26 +110,26 @@ same_left p ms ns ps qs rs us q r l = record { is_play = l.is_play; mem_is = l.m
 
 module _ (mem : MemEngine → EngineTable → List Entry → Type 0) (store : StoreEngine → EngineTable → List Entry → Type 0) where
   -- between two lines of all its sessions
-  pub paused : (lines : List RunLine) (x : RunState) (k : HasKept mem store lines x) → IsPaused x.catalog (no_rows x.catalog) k.first k.points k.common k.players
-  paused lines x k = record {
+  pub paused : (rows : Tables) (lines : List RunLine) (x : RunState) (k : HasKept mem store rows lines x) → IsPaused x.catalog rows k.first k.points k.common k.players
+  paused rows lines x k = record {
     tables = k.tables;
-    opening = no_rows_length x.catalog;
-    fit = none_fit x.catalog;
-    sorted = none_sorted x.catalog;
+    opening = k.opening.count;
+    fit = k.opening.fit;
+    sorted = k.opening.ordered;
     begun = k.begun;
     run = k.run;
     between = k.between;
     texts = are_short 1 lines k.players k.short k.between (subst (AreTold 1 lines) k.sessions_are k.told);
   }
 
-  abbrev played : (lines : List RunLine) (x : RunState) → HasKept mem store lines x → Play
-  played lines x k = play_of x.catalog (no_rows x.catalog) k.first k.points k.common k.players
+  abbrev played : (rows : Tables) (lines : List RunLine) (x : RunState) → HasKept mem store rows lines x → Play
+  played rows lines x k = play_of x.catalog rows k.first k.points k.common k.players
 
   -- it is what was left, with its records
-  left_by : (lines : List RunLine) (x : RunState) (k : HasKept mem store lines x) (finished : Finished) (records : List Record) → IsLeft finished k.common → records ≡ joined (map records_now x.sessions)
-      → IsLeftBy (played lines x k) finished.mem_journal finished.store_journal finished.points records
-  left_by lines x k finished records here are = record {
-    is_play = (paused_is_one x.catalog (no_rows x.catalog) k.first k.points k.common k.players (paused lines x k)).0;
+  left_by : (rows : Tables) (lines : List RunLine) (x : RunState) (k : HasKept mem store rows lines x) (finished : Finished) (records : List Record) → IsLeft finished k.common → records ≡ joined (map records_now x.sessions)
+      → IsLeftBy (played rows lines x k) finished.mem_journal finished.store_journal finished.points records
+  left_by rows lines x k finished records here are = record {
+    is_play = (paused_is_one x.catalog rows k.first k.points k.common k.players (paused rows lines x k)).0;
     mem_is = here.mem_entered;
     store_is = here.store_entered;
     points_are = here.pointed ∙ k.run.running.held.points_are;
@@ -157,7 +139,7 @@ module _ (mem : MemEngine → EngineTable → List Entry → Type 0) (store : St
   -- some run of sessions left this
   pub was_left : (x : RunState) (finished : Finished) (records : List Record) → IsKept mem store x → ((c : Common) → Stands mem store x.shared c → IsLeft finished c) → records ≡ joined (map records_now x.sessions)
       → (p : Play) × IsLeftBy p finished.mem_journal finished.store_journal finished.points records
-  was_left x finished records (lines, k) left are = (played lines x k, left_by lines x k finished records (left k.common k.stood) are)
+  was_left x finished records (rows, lines, k) left are = (played rows lines x k, left_by rows lines x k finished records (left k.common k.stood) are)
 
   -- the list of the run that left this
   abbrev pub IsOrderOf : Finished → List Record → List Commit → Type 0
@@ -166,24 +148,24 @@ module _ (mem : MemEngine → EngineTable → List Entry → Type 0) (store : St
   -- its list rises
   pub in_turn : (x : RunState) (finished : Finished) (records : List Record) (order : List Commit) → IsKept mem store x → ((c : Common) → Stands mem store x.shared c → IsLeft finished c) → records ≡ joined (map records_now x.sessions)
       → IsOrderOf finished records order → InTurn (λ (c : Commit). c.mem) order × InTurn (λ (c : Commit). c.store) order
-  in_turn x finished records order (lines, k) left are is_order =
-      let one : IsPlay (played lines x k) × OneDatabase x.catalog (no_rows x.catalog) (order_of (run_of (traces_in (played lines x k)))) (map (place_of (run_of (traces_in (played lines x k)))) (traces_in (played lines x k)).transactions) (records_in (played lines x k)) =
-      paused_is_one x.catalog (no_rows x.catalog) k.first k.points k.common k.players (paused lines x k) in
-      let is : order_of (run_of (traces_in (played lines x k))) ≡ order = sym (is_order (played lines x k) (left_by lines x k finished records (left k.common k.stood) are)) in
+  in_turn x finished records order (rows, lines, k) left are is_order =
+      let one : IsPlay (played rows lines x k) × OneDatabase x.catalog rows (order_of (run_of (traces_in (played rows lines x k)))) (map (place_of (run_of (traces_in (played rows lines x k)))) (traces_in (played rows lines x k)).transactions) (records_in (played rows lines x k)) =
+      paused_is_one x.catalog rows k.first k.points k.common k.players (paused rows lines x k) in
+      let is : order_of (run_of (traces_in (played rows lines x k))) ≡ order = sym (is_order (played rows lines x k) (left_by rows lines x k finished records (left k.common k.stood) are)) in
       (subst (InTurn (λ (c : Commit). c.mem)) is one.1.by_mem, subst (InTurn (λ (c : Commit). c.store)) is one.1.by_store)
 
   -- so its list is that of its sessions, and what it hands out is of one database
-  pub ended : (lines steps : List RunLine) (x : RunState) (finished : Finished) (y : Ended) (parts : List (List Record)) → AreSteps steps → HasKept mem store (lines ++ steps) x
+  pub ended : (rows : Tables) (lines steps : List RunLine) (x : RunState) (finished : Finished) (y : Ended) (parts : List (List Record)) → AreSteps steps → HasKept mem store rows (lines ++ steps) x
       → ((c : Common) → Stands mem store x.shared c → IsLeft finished c) → IsOrderOf finished y.records y.order
       → parts ≡ map records_now x.sessions → y.records ≡ joined parts → y.places ≡ map (λ (r : Record). place y.order r.mem r.store) y.records
-      → y.mem ≡ finished.mem_journal → y.store ≡ finished.store_journal → y.points ≡ finished.points → HasEnded x.catalog lines y
-  ended lines steps x finished y parts are_steps k left is_order parts_are records places mem_is store_is points_are =
+      → y.mem ≡ finished.mem_journal → y.store ≡ finished.store_journal → y.points ≡ finished.points → HasEnded x.catalog rows lines y
+  ended rows lines steps x finished y parts are_steps k left is_order parts_are records places mem_is store_is points_are =
       let told : AreTold 1 (lines ++ steps) (map (λ (p : Player). p.session) k.players) = subst (AreTold 1 (lines ++ steps)) k.sessions_are k.told in
-      let play : Play = played (lines ++ steps) x k in
+      let play : Play = played rows (lines ++ steps) x k in
       let run : CommitRun = run_of (traces_in play) in
-      let one : IsPlay play × OneDatabase x.catalog (no_rows x.catalog) (order_of run) (map (place_of run) (traces_in play).transactions) (records_in play) =
-      paused_is_one x.catalog (no_rows x.catalog) k.first k.points k.common k.players (paused (lines ++ steps) x k) in
-      let by : IsLeftBy play finished.mem_journal finished.store_journal finished.points y.records = left_by (lines ++ steps) x k finished y.records (left k.common k.stood) (records ∙ ap joined parts_are) in
+      let one : IsPlay play × OneDatabase x.catalog rows (order_of run) (map (place_of run) (traces_in play).transactions) (records_in play) =
+      paused_is_one x.catalog rows k.first k.points k.common k.players (paused rows (lines ++ steps) x k) in
+      let by : IsLeftBy play finished.mem_journal finished.store_journal finished.points y.records = left_by rows (lines ++ steps) x k finished y.records (left k.common k.stood) (records ∙ ap joined parts_are) in
       let handed : parts ≡ map records_now (map (λ (p : Player). p.session) k.players) = parts_are ∙ ap (map records_now) k.sessions_are in
       let order : y.order ≡ order_of run = is_order play by in
       let at : map (place_of run) (traces_in play).transactions ≡ y.places =
@@ -198,9 +180,9 @@ module _ (mem : MemEngine → EngineTable → List Entry → Type 0) (store : St
         points_are = points_are ∙ by.points_are;
         records_are = by.records_are;
         order_is = order;
-        one = subst (OneDatabase x.catalog (no_rows x.catalog) y.order y.places) (sym by.records_are)
-            (subst (λ ps. OneDatabase x.catalog (no_rows x.catalog) y.order ps (records_in play)) at
-            (subst (λ cs. OneDatabase x.catalog (no_rows x.catalog) cs (map (place_of run) (traces_in play).transactions) (records_in play)) (sym order) one.1));
+        one = subst (OneDatabase x.catalog rows y.order y.places) (sym by.records_are)
+            (subst (λ ps. OneDatabase x.catalog rows y.order ps (records_in play)) at
+            (subst (λ cs. OneDatabase x.catalog rows cs (map (place_of run) (traces_in play).transactions) (records_in play)) (sym order) one.1));
         steps = steps;
         are_steps = are_steps;
         parts = parts;

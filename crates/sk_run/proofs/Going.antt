@@ -1,7 +1,7 @@
 -- A line of one session keeps what the run has kept.
 use Rattle.std.specs.Prelude.{◌≡◌, ℕ, ◌+◌, ◌-◌, zero, suc, ◌<◌, ◌≤◌, List, [], ◌∷◌, ◌++◌, Option, None, length, map}
 use Rattle.std.proofs.Common.{refl, sym, ap, subst, ◌∙◌, arith}
-use Rattle.std.proofs.Math.Seq.{split_at, get_or-append_seam, set-append_seam}
+use Rattle.std.proofs.Math.Seq.{get_or-append_seam, set-append_seam}
 use Rattle.std.proofs.Math.ListN.{get_or, set}
 use Rattle.std.proofs.lemmas.List.{map-append, length-map, length-set}
 use Rattle.sk_rows.specs.declared.table.Table.{Table}
@@ -11,11 +11,12 @@ use Rattle.sk_model.specs.declared.engine.EngineName.{EngineName}
 use Rattle.sk_model.specs.declared.point.Point.{Point}
 use Rattle.sk_model.specs.declared.reply.Reply.{Reply}
 use Rattle.sk_model.specs.declared.call.Entry.{Entry}
+use Rattle.sk_model.specs.Database.{Tables}
 use Rattle.sk_model.specs.Engine.{EngineTable, engine_at}
 use Rattle.sk_model.specs.Talks.{Talk}
 use Rattle.sk_model.proofs.Lists.{Each, each_append}
 use Rattle.sk_weave.specs.Reads.{number_at}
-use Rattle.sk_store.specs.Begun.{no_rows}
+use Rattle.sk_store.specs.Loading.{AreOpeningRows}
 use Rattle.sk_mem.specs.declared.engine.MemEngine.{MemEngine}
 use Rattle.sk_store.specs.declared.engine.StoreEngine.{StoreEngine}
 use Rattle.sk_commit.specs.declared.asking.Wish.{Wish}
@@ -27,12 +28,11 @@ use Rattle.sk_session.specs.Conversing.{Exchange, Exchanges, Conversed, HasLeft}
 use Rattle.sk_session.specs.Printed.{LinePrints}
 use Rattle.sk_session.specs.Common.{Common}
 use Rattle.sk_shared.specs.Shared.{Stands, Answers}
-use Rattle.sk_shared.specs.declared.shared.Shared.{Shared}
 use Rattle.sk_kept.specs.Sessions.{Player, IsRun, AnswersRight, GoesOn}
 use Rattle.sk_kept.proofs.Middles.{each_others, each_focus, each_middle}
 use Rattle.sk_kept.proofs.Sessions.{lines_keep, leaves_keep}
 use Rattle.sk_run.specs.Told.{RunLine, IsShort, AreTold}
-use Rattle.sk_run.specs.Kept.{HasKept, KeepsOn}
+use Rattle.sk_run.specs.Kept.{KeepsOn}
 use Rattle.sk_run.specs.State.{RunState}
 use Rattle.sk_run.proofs.Lines.{line_by, told_on}
 
@@ -70,6 +70,13 @@ middle_of (x ∷ xs) (suc n) h =
     let m : Middle xs n = middle_of xs n (omega (arith, h)) in
     record { before = x ∷ m.before; one = m.one; after = m.after; is = ap (λ ys. x ∷ ys) m.is; place = ap suc m.place }
 
+-- ---- what the engines began with
+
+-- it stays what it was
+pub begins_still : (before now : EngineName → EngineTable) (catalog later : List Table) (rows : Tables) (start : Point) → later ≡ catalog → now ≡ before
+    → ((name : EngineName) → before name ≡ engine_at name catalog rows (number_at name start)) → (name : EngineName) → now name ≡ engine_at name later rows (number_at name start)
+begins_still before now catalog later rows start same is begun name = ap (λ (f : EngineName → EngineTable). f name) is ∙ begun name ∙ ap (λ tables. engine_at name tables rows (number_at name start)) (sym same)
+
 -- ---- a line
 
 module _ (mem : MemEngine → EngineTable → List Entry → Type 0) (store : StoreEngine → EngineTable → List Entry → Type 0) where
@@ -85,7 +92,7 @@ module _ (mem : MemEngine → EngineTable → List Entry → Type 0) (store : St
   turn_keeps : (old new : RunState) (number at : ℕ) (s : Option Statement) (speaker spoken : Session) (reply : Reply) → number ≡ at + 1 → at < length old.sessions
       → speaker ≡ get_or old.sessions at speaker → new.sessions ≡ set old.sessions at spoken → new.catalog ≡ old.catalog
       → Goes old speaker spoken new → spoken.number ≡ speaker.number → LinePrints speaker s spoken reply → IsShort s → KeepsOn mem store old number s new reply
-  turn_keeps old new number at s speaker spoken reply counts inside is set_to same goes_on same_number prints short lines k =
+  turn_keeps old new number at s speaker spoken reply counts inside is set_to same goes_on same_number prints short rows lines k =
       let m : Middle k.players at = middle_of k.players at (subst (λ n. at < n) (ap length k.sessions_are ∙ length-map k.players (λ (p : Player). p.session)) inside) in
       let split : old.sessions ≡ map (λ (p : Player). p.session) m.before ++ m.one.session ∷ map (λ (p : Player). p.session) m.after =
       k.sessions_are ∙ ap (map (λ (p : Player). p.session)) m.is ∙ map-append (λ (p : Player). p.session) m.before (m.one ∷ m.after) in
@@ -104,11 +111,12 @@ module _ (mem : MemEngine → EngineTable → List Entry → Type 0) (store : St
       ∙ set-append_seam (map (λ (p : Player). p.session) m.before) m.one.session (map (λ (p : Player). p.session) m.after) spoken in
       record {
         tables = subst IsCatalog (sym same) k.tables;
+        opening = subst (λ catalog. AreOpeningRows catalog rows) (sym same) k.opening;
         few = subst (λ n. n < 65536) (sym (ap length set_to ∙ length-set old.sessions at spoken)) k.few;
         common = goes.0.common;
         stood = goes.0.stood;
         first = k.first;
-        begun = λ name. subst (λ catalog. goes.0.common.first name ≡ engine_at name catalog (no_rows catalog) (number_at name k.first)) (sym same) (ap (λ f. f name) goes.0.begun ∙ k.begun name);
+        begun = begins_still k.common.first goes.0.common.first old.catalog new.catalog rows k.first same goes.0.begun k.begun;
         points = k.points ++ goes.0.more;
         players = m.before ++ spoke ∷ m.after;
         sessions_are = sessions ∙ sym (map-append (λ (p : Player). p.session) m.before (spoke ∷ m.after));

@@ -8,6 +8,8 @@ pub mod Beginning
 pub mod Going
 -- What the table of refusals refuses
 pub mod Refusing
+-- What a flush asks leaves a run that goes on
+pub mod Drifting
 -- Sessions that end
 pub mod Settling
 -- What a run hands out

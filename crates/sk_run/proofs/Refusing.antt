@@ -1,7 +1,7 @@
 -- What the table of refusals refuses is answered so, with one line more.
 use Rattle.std.specs.Prelude.{◌≡◌, ℕ, zero, suc, ◌+◌, ◌<◌, List, [], ◌∷◌, ◌++◌, Option, map, length, false, ◌==◌}
 use Rattle.std.specs.List.{range_with_len}
-use Rattle.std.proofs.Common.{refl, sym, ap, subst, ◌∙◌, arith}
+use Rattle.std.proofs.Common.{sym, ap, subst, ◌∙◌, arith}
 use Rattle.std.proofs.Math.Seq.{get_or-append_seam, set-append_seam}
 use Rattle.std.proofs.Math.ListN.{get_or, set}
 use Rattle.std.proofs.lemmas.Bool.{ne_eqb}
@@ -10,7 +10,6 @@ use Rattle.sk_rows.specs.declared.statement.Statement.{Statement}
 use Rattle.sk_model.specs.declared.reply.Reply.{Reply}
 use Rattle.sk_model.specs.declared.call.Entry.{Entry}
 use Rattle.sk_model.specs.Engine.{EngineTable}
-use Rattle.sk_model.proofs.Lists.{Each}
 use Rattle.sk_mem.specs.declared.engine.MemEngine.{MemEngine}
 use Rattle.sk_store.specs.declared.engine.StoreEngine.{StoreEngine}
 use Rattle.sk_session.specs.declared.session.Session.{Session}
@@ -21,7 +20,7 @@ use Rattle.sk_session.specs.Starting.{fresh}
 use Rattle.sk_session.proofs.Obeyed.{refuses_on, new_refuses}
 use Rattle.sk_run.specs.Told.{RunLine, lines_of, AreTold, AreRefused, ObeyTable}
 use Rattle.sk_run.specs.State.{RunState}
-use Rattle.sk_run.specs.Kept.{HasKept, RefusesOn}
+use Rattle.sk_run.specs.Kept.{RefusesOn}
 use Rattle.sk_run.proofs.Lines.{line_by, own_line, other_line, k_is}
 use Rattle.sk_run.proofs.Going.{Middle, middle_of}
 
@@ -65,7 +64,7 @@ module _ (catalog : List Table) where
 
 pub line_refuses_on : (mem : MemEngine → EngineTable → List Entry → Type 0) (store : StoreEngine → EngineTable → List Entry → Type 0) (old new : RunState) (number at : ℕ) (s : Option Statement) (speaker spoken : Session) (reply : Reply) → number ≡ at + 1
     → at < length old.sessions → speaker ≡ get_or old.sessions at speaker → new.sessions ≡ set old.sessions at spoken → LineRefuses old.catalog speaker s spoken reply → RefusesOn mem store old number s new reply
-line_refuses_on mem store old new number at s speaker spoken reply counts inside is set_to one lines k h =
+line_refuses_on mem store old new number at s speaker spoken reply counts inside is set_to one rows lines k h =
     let m : Middle old.sessions at = middle_of old.sessions at inside in
     let who : m.one ≡ speaker =
     sym (is ∙ ap (λ xs. get_or xs at speaker) m.is ∙ ap (λ i. get_or (m.before ++ m.one ∷ m.after) i speaker) (sym m.place) ∙ get_or-append_seam m.before m.one m.after speaker) in

@@ -7,11 +7,12 @@ use Rattle.sk_model.specs.declared.engine.EngineName.{EngineName}
 use Rattle.sk_model.specs.declared.point.Point.{Point}
 use Rattle.sk_model.specs.declared.reply.Reply.{Reply}
 use Rattle.sk_model.specs.declared.call.Entry.{Entry}
+use Rattle.sk_model.specs.Database.{Tables}
 use Rattle.sk_model.specs.Engine.{EngineTable, engine_at}
 use Rattle.sk_weave.specs.Reads.{number_at}
 use Rattle.sk_mem.specs.declared.engine.MemEngine.{MemEngine}
 use Rattle.sk_store.specs.declared.engine.StoreEngine.{StoreEngine}
-use Rattle.sk_store.specs.Begun.{no_rows}
+use Rattle.sk_store.specs.Loading.{AreOpeningRows}
 use Rattle.sk_session.specs.EachTalk.{IsBetween}
 use Rattle.sk_session.specs.Common.{Common}
 use Rattle.sk_shared.specs.Shared.{Stands}
@@ -25,14 +26,15 @@ IsKnown x number = (1 ≤ number) × (number ≤ length x.sessions)
 
 module _ (mem : MemEngine → EngineTable → List Entry → Type 0) (store : StoreEngine → EngineTable → List Entry → Type 0) where
   -- These lines were told, and the run has kept all that a run of sessions keeps: what they share stands for this, the sessions with the calls
-  -- of their transactions are a run over it which began without rows, and each is between two lines, of which its records say what was told.
-  pub record HasKept (lines : List RunLine) (x : RunState) : Type 0 where
+  -- of their transactions are a run over it which began with these rows, and each is between two lines, of which its records say what was told.
+  pub record HasKept (rows : Tables) (lines : List RunLine) (x : RunState) : Type 0 where
     pub tables : IsCatalog x.catalog
+    pub opening : AreOpeningRows x.catalog rows
     pub few : length x.sessions < 65536
     pub common : Common
     pub stood : Stands mem store x.shared common
     pub first : Point
-    pub begun : (name : EngineName) → common.first name ≡ engine_at name x.catalog (no_rows x.catalog) (number_at name first)
+    pub begun : (name : EngineName) → common.first name ≡ engine_at name x.catalog rows (number_at name first)
     pub points : List Point
     pub players : List Player
     pub sessions_are : x.sessions ≡ map (λ (p : Player). p.session) players
@@ -41,15 +43,15 @@ module _ (mem : MemEngine → EngineTable → List Entry → Type 0) (store : St
     pub told : AreTold 1 lines x.sessions
     pub short : AreShort lines
 
-  -- whatever the lines so far were: with this one more it has kept them
+  -- whatever the rows and the lines so far were: with this one more it has kept them
   abbrev pub KeepsOn : RunState → ℕ → Option Statement → RunState → Reply → Type 0
-  KeepsOn old number s new reply = (lines : List RunLine) → HasKept lines old → HasKept (lines ++ record { session = number; line = (s, reply) } ∷ []) new
+  KeepsOn old number s new reply = (rows : Tables) (lines : List RunLine) → HasKept rows lines old → HasKept rows (lines ++ record { session = number; line = (s, reply) } ∷ []) new
 
   -- and what the table of refusals refuses was answered so, of this line too
   abbrev pub RefusesOn : RunState → ℕ → Option Statement → RunState → Reply → Type 0
   RefusesOn old number s new reply =
-      (lines : List RunLine) → HasKept lines old → AreRefused old.catalog 1 lines old.sessions → AreRefused old.catalog 1 (lines ++ record { session = number; line = (s, reply) } ∷ []) new.sessions
+      (rows : Tables) (lines : List RunLine) → HasKept rows lines old → AreRefused old.catalog 1 lines old.sessions → AreRefused old.catalog 1 (lines ++ record { session = number; line = (s, reply) } ∷ []) new.sessions
 
   -- it has kept some lines
   abbrev pub IsKept : RunState → Type 0
-  IsKept x = (lines : List RunLine) × HasKept lines x
+  IsKept x = (rows : Tables) × (lines : List RunLine) × HasKept rows lines x

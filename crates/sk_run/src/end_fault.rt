@@ -1,11 +1,11 @@
-//! Why a run did not end.
+//! Why a run did not answer.
 
 use sk_rows::NoMemory;
 
-/// Why a run did not end.
+/// Why a run did not answer.
 #[derive(Clone, Copy, Debug, PartialEq, Eq)]
 pub enum EndFault {
-    /// A call that ends a session could not be answered.
+    /// A call could not be answered: the run is at its end.
     Unanswered,
     /// Memory was wanted and refused.
     NoMemory,

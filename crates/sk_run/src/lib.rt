@@ -3,10 +3,12 @@
 
 mod end_fault;
 mod ended;
+mod flushing;
 mod run;
 
 pub use end_fault::EndFault;
 pub use ended::Ended;
+pub use flushing::Found;
 pub use run::Run;
 
 #[cfg(test)]

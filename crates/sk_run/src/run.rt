@@ -4,6 +4,7 @@ ghost use Rattle.std.specs.Prelude.{◌≡◌, ◌++◌, [], IfOk, None, length,
 ghost use Rattle.std.specs.List.{range_with_len};
 ghost use Rattle.std.specs.Option.{option_copied};
 ghost use Rattle.sk_weave.specs.RegistryLaws.{CanStart};
+ghost use Rattle.sk_store.specs.Loading.{AreOpeningRows};
 ghost use Rattle.sk_session.specs.Starting.{fresh, records_now};
 ghost use Rattle.sk_run.specs.Told.{IsShort, AreRefused};
 ghost use Rattle.sk_run.specs.Kept.{IsKnown, HasKept, KeepsOn, RefusesOn};
@@ -14,7 +15,7 @@ use crate::ended::Ended;
 use sk_chain::Engine;
 use sk_ledger::order;
 use sk_mem::MemEngine;
-use sk_model::{ErrWord, Point, RecordList, Reply};
+use sk_model::{ErrWord, Point, Record, RecordList, Reply, Tables};
 use sk_places::places;
 use sk_rows::{Catalog, NoMemory, Statement};
 use sk_session::{Session, Unanswered, converse, leave_with};
@@ -31,9 +32,9 @@ const MOST_STEPS: u32 = 7;
 /// Contracts see its tables, its sessions and what they share.
 #[derive(Drop)]
 pub struct Run {
-    catalog: Catalog,
-    sessions: Vec<Session>,
-    shared: Shared,
+    pub(crate) catalog: Catalog,
+    pub(crate) sessions: Vec<Session>,
+    pub(crate) shared: Shared,
 }
 
 impl Model for Run {
@@ -86,22 +87,24 @@ fn records_of(alloc: Global, sessions: Vec<Session>) -> Result<RecordList, NoMem
 }
 
 impl Run {
-    /// A run that begins without rows, with so many sessions. Its registry has so many partitions of so many points each, and the numbers of both engines begin at this selection.
+    /// A run that begins with these rows, one list a table, and with so many sessions. Its registry has so many partitions of so many points each, and the numbers of both engines begin at this selection.
     pub fn new(
         alloc: Global,
         catalog: Catalog,
+        rows: &Tables,
         partitions: u32,
         size: u32,
         start: Point,
         sessions: u16,
     ) -> Result<Run, NoMemory>
-        requires { CanStart partitions size start }
-        ensures kept { IfOk result (λ x. HasKept ⟦<MemEngine as Engine>⟧.stands ⟦<StoreEngine as Engine>⟧.stands [] x) }
+        requires start { CanStart partitions size start }
+        requires rows { AreOpeningRows catalog rows.now }
+        ensures kept { IfOk result (λ x. HasKept ⟦<MemEngine as Engine>⟧.stands ⟦<StoreEngine as Engine>⟧.stands rows.now [] x) }
         ensures refused { IfOk result (λ x. AreRefused x.catalog 1 [] x.sessions) }
         ensures tables { IfOk result (λ x. x.catalog ≡ catalog) }
         ensures sessions { IfOk result (λ x. length x.sessions ≡ sessions) }
     {
-        let shared = Shared::new(alloc, &catalog, partitions, size, start)?;
+        let shared = Shared::new(alloc, &catalog, rows, partitions, size, start)?;
         let sessions = fresh_sessions(alloc, sessions)?;
         Ok(Run {
             catalog,
@@ -142,6 +145,22 @@ impl Run {
         Ok((run, reply))
     }
 
+    /// How many sessions it has.
+    pub fn sessions(&self) -> u16
+        ensures { result ≡ length self.now.sessions }
+    {
+        self.sessions.len() as u16
+    }
+
+    /// The record of this session's last transaction: as it began where it is live, and else as it ended.
+    pub fn last_record(&self, session: u16) -> Option<&Record>
+        requires { IsKnown self.now session }
+    {
+        let at = session as usize - 1;
+        let speaker = self.sessions.get(at)?;
+        speaker.records().as_slice().last()
+    }
+
     /// Leaves this session: a transaction that is open is rolled back. Where a commit is between two of its steps that is refused.
     fn leave(self, alloc: Global, session: u16) -> Result<(Run, Reply), Unanswered>
         requires { IsKnown self session }
@@ -168,7 +187,7 @@ impl Run {
     }
 
     /// Ends this session: a commit that is under way takes the steps that are left of it, and any other transaction is rolled back.
-    fn settle(self, alloc: Global, session: u16) -> Result<Run, Unanswered>
+    pub fn settle(self, alloc: Global, session: u16) -> Result<Run, Unanswered>
         requires { IsKnown self session }
         ensures kept { IfOk result (λ run. Settles ⟦<MemEngine as Engine>⟧.stands ⟦<StoreEngine as Engine>⟧.stands self run) }
         ensures tables { IfOk result (λ run. run.catalog ≡ self.catalog) }
@@ -210,7 +229,7 @@ impl Run {
     }
 
     /// What the run has come to.
-    fn hand_out(self, alloc: Global) -> Result<Ended, EndFault>
+    pub fn hand_out(self, alloc: Global) -> Result<Ended, EndFault>
         ensures { IfOk result (λ x. HandsOut ⟦<MemEngine as Engine>⟧.stands ⟦<StoreEngine as Engine>⟧.stands self x) }
     {
         let Run {

@@ -11,6 +11,7 @@ use Rattle.sk_model.specs.declared.reply.Reply.{Reply}
 use Rattle.sk_model.specs.Engine.{EngineTable}
 use Rattle.sk_mem.specs.declared.engine.MemEngine.{MemEngine}
 use Rattle.sk_store.specs.declared.engine.StoreEngine.{StoreEngine}
+use Rattle.sk_store.specs.Begun.{no_rows}
 use Rattle.sk_run.specs.State.{RunState}
 use Rattle.sk_run.specs.Told.{RunLine, AreRefused, ObeyTable}
 use Rattle.sk_run.specs.Kept.{HasKept, KeepsOn, RefusesOn}
@@ -40,15 +41,15 @@ module _ (mem : MemEngine → EngineTable → List Entry → Type 0) (store : St
   plays_line run next text text_then l reply keeps refuses tables sessions printed catalog lines h = record {
     told = h.told ++ told_line l reply ∷ [];
     answered = map-append asked_by h.told (told_line l reply ∷ []) ∙ ap (λ xs. xs ++ asked_in l ∷ []) h.answered ∙ sym (map-append asked_in lines (l ∷ []));
-    kept = keeps h.told h.kept;
+    kept = keeps (no_rows catalog) h.told h.kept;
     tables = tables ∙ h.tables;
     sessions = sessions ∙ h.sessions;
-    refused = subst (λ c. AreRefused c 1 (h.told ++ told_line l reply ∷ []) next.sessions) h.tables (refuses h.told h.kept (subst (λ c. AreRefused c 1 h.told run.sessions) (sym h.tables) h.refused));
+    refused = subst (λ c. AreRefused c 1 (h.told ++ told_line l reply ∷ []) next.sessions) h.tables (refuses (no_rows catalog) h.told h.kept (subst (λ c. AreRefused c 1 h.told run.sessions) (sym h.tables) h.refused));
     printed = printed ∙ ap (λ xs. xs ++ reply_lines (session_in l.what) reply) h.printed ∙ sym (answers_more h.told l reply);
   }
 
   -- no line yet
-  pub plays_first : (catalog : List Table) (run : RunState) (text : List ℕ) → HasKept mem store [] run → AreRefused run.catalog 1 [] run.sessions → run.catalog ≡ catalog → length run.sessions ≡ most_sessions → text ≡ [] → HasPlayed mem store catalog [] run text
+  pub plays_first : (catalog : List Table) (run : RunState) (text : List ℕ) → HasKept mem store (no_rows catalog) [] run → AreRefused run.catalog 1 [] run.sessions → run.catalog ≡ catalog → length run.sessions ≡ most_sessions → text ≡ [] → HasPlayed mem store catalog [] run text
   plays_first catalog run text kept refused tables sessions printed = record {
     told = [];
     answered = refl;
@@ -72,7 +73,7 @@ module _ (mem : MemEngine → EngineTable → List Entry → Type 0) (store : St
   ends_so run ended text text_then ends printed catalog lines h = record {
     told = h.told;
     answered = h.answered;
-    ends = subst (λ c. HasEnded c h.told ended) h.tables (ends h.told h.kept);
+    ends = subst (λ c. HasEnded c (no_rows catalog) h.told ended) h.tables (ends (no_rows catalog) h.told h.kept);
     refused = subst (λ n. ObeyTable catalog h.told (range_with_len 1 n)) h.sessions (obey catalog 1 h.told run.sessions h.refused);
     printed = printed ∙ ap (λ xs. xs ++ report ended.order ended.records ended.places) h.printed;
   }

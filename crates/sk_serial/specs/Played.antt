@@ -9,6 +9,7 @@ use Rattle.sk_model.specs.declared.record.Record.{Record}
 use Rattle.sk_model.specs.Engine.{EngineTable}
 use Rattle.sk_mem.specs.declared.engine.MemEngine.{MemEngine}
 use Rattle.sk_store.specs.declared.engine.StoreEngine.{StoreEngine}
+use Rattle.sk_store.specs.Begun.{no_rows}
 use Rattle.sk_run.specs.State.{RunState}
 use Rattle.sk_run.specs.Told.{RunLine, AreRefused, ObeyTable}
 use Rattle.sk_run.specs.Kept.{HasKept}
@@ -52,11 +53,11 @@ answers_text told = replies_text (map (λ (t : RunLine). (t.session, t.line.1)) 
 abbrev pub run_text : List RunLine → List Commit → List Record → List ℕ → List ℕ
 run_text told order records places = answers_text told ++ report order records places
 
--- a run over these tables was told these lines, has ended so, and this is its text; what the table of refusals refuses each of its sessions was answered so
+-- a run over these tables, which began without rows, was told these lines, has ended so, and this is its text; what the table of refusals refuses each of its sessions was answered so
 pub record HasShown (catalog : List Table) (lines : List ScriptLine) (ended : Ended) (text : List ℕ) : Type 0 where
   pub told : List RunLine
   pub answered : AreAnswered lines told
-  pub ends : HasEnded catalog told ended
+  pub ends : HasEnded catalog (no_rows catalog) told ended
   pub refused : ObeyTable catalog told (range_with_len 1 most_sessions)
   pub printed : text ≡ run_text told ended.order ended.records ended.places
 
@@ -65,7 +66,7 @@ module _ (mem : MemEngine → EngineTable → List Entry → Type 0) (store : St
   pub record HasPlayed (catalog : List Table) (lines : List ScriptLine) (run : RunState) (text : List ℕ) : Type 0 where
     pub told : List RunLine
     pub answered : AreAnswered lines told
-    pub kept : HasKept mem store told run
+    pub kept : HasKept mem store (no_rows catalog) told run
     pub tables : run.catalog ≡ catalog
     pub sessions : length run.sessions ≡ most_sessions
     pub refused : AreRefused catalog 1 told run.sessions

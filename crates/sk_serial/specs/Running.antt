@@ -14,6 +14,7 @@ use Rattle.sk_script.specs.Limits.{most_read, most_sessions}
 use Rattle.sk_serial.specs.declared.playing.Shown.{Shown}
 use Rattle.sk_serial.specs.declared.run_fault.RunFault.{RunFault}
 use Rattle.sk_serial.specs.declared.run_fault.RunFault.TheVariants as run_fault
+use Rattle.sk_store.specs.Begun.{no_rows}
 use Rattle.sk_run.specs.declared.ended.Ended.{Ended}
 use Rattle.sk_run.specs.Told.{RunLine, ObeyTable}
 use Rattle.sk_run.specs.Ended.{HasEnded}
@@ -134,7 +135,7 @@ pub record HasRun (left left_now written written_now : Option (List ℕ)) (outco
   pub told : List RunLine
   pub answered : AreAnswered script.lines told
   pub handed : Ended
-  pub ended : HasEnded (tables_in script) told handed
+  pub ended : HasEnded (tables_in script) (no_rows (tables_in script)) told handed
   pub refused : ObeyTable (tables_in script) told (range_with_len 1 most_sessions)
   pub records : outcome.records ≡ handed.records
   pub mem : outcome.mem ≡ handed.mem

@@ -4,6 +4,7 @@ ghost use Rattle.std.specs.Prelude.{◌≡◌, ◌∷◌, ◌++◌, [], map, len
 ghost use Rattle.std.specs.List.{AllByRecursion};
 ghost use Rattle.std.specs.String.{string_bytes};
 ghost use Rattle.sk_rows.specs.Catalog.{add_fault};
+ghost use Rattle.sk_store.specs.Begun.{no_rows};
 ghost use Rattle.sk_script.specs.Limits.{most_sessions};
 ghost use Rattle.sk_script.specs.Options.{CanSet, AreInRange};
 ghost use Rattle.sk_script.specs.Rules.{IsSession, session_in};
@@ -15,7 +16,7 @@ ghost use Rattle.sk_serial.specs.Running.{IsShown};
 
 use sk_chain::Engine;
 use sk_mem::MemEngine;
-use sk_model::{Point, Reply};
+use sk_model::{KeyedRows, Point, Reply, Tables};
 use sk_rows::{Catalog, CatalogFault, NoMemory, Table};
 use sk_run::{Ended, Run};
 use sk_script::{Line, Script, ScriptLine, Settings, TableLine, put_reply_lines, put_report};
@@ -65,6 +66,17 @@ fn catalog_of(alloc: Global, lines: Vec<TableLine>) -> Result<Catalog, NoMemory>
     Ok(catalog)
 }
 
+/// No rows, for each table of the catalog.
+fn empty_tables(alloc: Global, catalog: &Catalog) -> Result<Tables, NoMemory>
+    ensures { IfOk result (λ rows. rows ≡ no_rows catalog.now) }
+{
+    let mut rows = Tables::new(alloc);
+    for _table in catalog.tables() {
+        rows.push(KeyedRows::new(alloc))?;
+    }
+    Ok(rows)
+}
+
 /// The run of a script before its first line.
 fn begun(alloc: Global, catalog: Catalog, settings: Settings) -> Result<Playing, NoMemory>
     requires { AreInRange settings }
@@ -75,9 +87,11 @@ fn begun(alloc: Global, catalog: Catalog, settings: Settings) -> Result<Playing,
         b: settings.starts,
         commit: false,
     };
+    let rows = empty_tables(alloc, &catalog)?;
     let run = Run::new(
         alloc,
         catalog,
+        &rows,
         settings.partitions,
         settings.points,
         start,

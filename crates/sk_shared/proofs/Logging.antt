@@ -9,11 +9,12 @@ use Rattle.sk_weave.specs.declared.answer.Selected.{Selected}
 use Rattle.sk_weave.specs.declared.answer.DrawFault.{DrawFault}
 use Rattle.sk_weave.specs.declared.answer.DrawFault.TheVariants.{Spent, Early}
 use Rattle.sk_weave.specs.declared.answer.Passed.{Passed}
+use Rattle.sk_weave.specs.declared.answer.CutFound.{CutFound}
 use Rattle.sk_weave.specs.declared.event.Event.{Event}
 use Rattle.sk_weave.specs.declared.event.Event.TheVariants as event
 use Rattle.sk_weave.specs.Points.{selection, commit_point, pick}
 use Rattle.sk_weave.specs.Promise.{Answers}
-use Rattle.sk_weave.specs.Registry.{Regs, oldest_of, last_of, after_all, append_steps, selected, selection_steps, after_selection, drawn, draw_steps, after_draw_mem, after_draw_store, passes, checked, after_check}
+use Rattle.sk_weave.specs.Registry.{Regs, oldest_of, last_of, after_all, append_steps, selected, selection_steps, after_selection, drawn, draw_steps, after_draw_mem, after_draw_store, passes, checked, after_check, makes_cut, after_cut, cut_found}
 use Rattle.sk_weave.proofs.Registers.{points_after_append}
 use Rattle.sk_points.specs.declared.points.Points.{Points}
 use Rattle.sk_points.specs.Stands.{StandsFor}
@@ -21,7 +22,7 @@ use Rattle.sk_commit.specs.declared.asking.RegistryCall.{RegistryCall}
 use Rattle.sk_commit.specs.declared.asking.RegistryCall.TheVariants as reg
 use Rattle.sk_commit.specs.declared.asking.RegistryReply.{RegistryReply}
 use Rattle.sk_commit.specs.declared.asking.RegistryReply.TheVariants as told
-use Rattle.sk_shared.specs.Logged.{Logged, IsLogged, Registered}
+use Rattle.sk_shared.specs.Logged.{Logged, IsLogged, Registered, CutsLog, LogsSame, ShowsOldest}
 
 abbrev pub log : Points → List Point → Logged
 log p xs = record { points = p; all = xs }
@@ -183,3 +184,35 @@ refuses p p1 p2 p3 xs ca cb Answer More result e h k g is r l =
     let stopped : passes r ca cb ≡ false = sym (passes_is r ca cb) ∙ ap is_passed fails in
     let same : after_check r ca cb ≡ r = ap (λ t. after_all r (cond t (append_steps r (commit_point ca cb)) [])) stopped in
     (r, (fails, refl), record { stands = subst (StandsFor p3) same c.1; all = l.all })
+
+-- ---- the cut of a flush
+
+pub cuts : (p p1 p2 p3 : Points) (xs ys : List Point) (x y m n : ℕ) (found : CutFound) → Answers StandsFor p p1 (λ r. m ≡ r.mem) (λ r. r) → x ≤ m → Answers StandsFor p1 p2 (λ r. n ≡ r.store) (λ r. r) → y ≤ n
+    → Answers StandsFor p2 p3 (λ r. found ≡ cut_found r x y r.store) (λ r. after_cut r x y r.store) → ys ≡ xs ++ cond found.made (selection x y ∷ []) [] → CutsLog (log p xs) x y found (log p3 ys)
+cuts p p1 p2 p3 xs ys x y m n found h le k le2 g more r l =
+    let a = h r l.stands in
+    let b = k r a.1 in
+    let c = g r b.1 in
+    let points : (after_cut r x y r.store).points ≡ r.points ++ cond (makes_cut r x y r.store) (selection x y ∷ []) [] = points_if r (selection x y) (makes_cut r x y r.store) in (
+      subst (λ t. x ≤ t) a.0 le,
+      subst (λ t. y ≤ t) b.0 le2,
+      c.0,
+      record {
+        stands = c.1;
+        all = more ∙ ap (λ (t : CutFound). xs ++ cond t.made (selection x y ∷ []) []) c.0 ∙ ap (λ zs. zs ++ cond (makes_cut r x y r.store) (selection x y ∷ []) []) l.all ∙ sym points;
+      },
+    )
+
+-- looks at the counters leave it as it was
+pub looked_same : (p p1 p2 : Points) (xs : List Point) (A B : Regs → Type 0) → Answers StandsFor p p1 A (λ r. r) → Answers StandsFor p1 p2 B (λ r. r) → LogsSame (log p xs) (log p2 xs)
+looked_same p p1 p2 xs A B h k r l = record { stands = (k r (h r l.stands).1).1; all = l.all }
+
+pub shown : (p q : Points) (xs : List Point) (o : Point) → Answers StandsFor p q (λ r. o ≡ oldest_of r) (λ r. r) → ShowsOldest (log p xs) o (log q xs)
+shown p q xs o h r l = let k = h r l.stands in (k.0, record { stands = k.1; all = l.all })
+
+-- it is still in use
+pub cut_used : (old new : Logged) (x y : ℕ) (found : CutFound) → IsLogged old → CutsLog old x y found new → IsLogged new
+cut_used old new x y found u g = (after_cut u.0 x y u.0.store, (g u.0 u.1).3)
+
+pub same_used : (old new : Logged) → IsLogged old → LogsSame old new → IsLogged new
+same_used old new u g = (u.0, g u.0 u.1)

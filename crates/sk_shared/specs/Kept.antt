@@ -5,6 +5,8 @@ use Rattle.sk_model.specs.declared.call.EngineCall.TheVariants as call
 use Rattle.sk_model.specs.declared.call.EngineReply.{EngineReply}
 use Rattle.sk_model.specs.declared.call.Entry.{Entry}
 use Rattle.sk_model.specs.Engine.{EngineTable}
+use Rattle.sk_model.specs.EngineConditions.{may}
+use Rattle.sk_model.specs.Legal.{after_entries}
 use Rattle.sk_model.specs.Journal.{most_entries}
 use Rattle.sk_chain.specs.declared.noted.Noted.{Noted}
 use Rattle.sk_chain.specs.Noting.{journal_of, noted_stands}
@@ -34,3 +36,7 @@ Asks stands old asked result new = (first : EngineTable) (js : List Entry) → K
 abbrev pub is_close : EngineCall → Bool
 is_close (call.Close tx) = true
 is_close _ = false
+
+-- whatever the first table, the call may be made behind the entries
+abbrev pub MayMake : {G : Type 0} → (G → EngineTable → List Entry → Type 0) → Noted G → EngineCall → Type 0
+MayMake stands x asked = (first : EngineTable) (js : List Entry) → Keeps stands x first js → may (after_entries first js) asked ≡ true

@@ -2,4 +2,6 @@ pub mod Logged
 pub mod Kept
 pub mod Pair
 pub mod Shared
+pub mod Flushing
+pub mod Joined
 pub mod Finished

@@ -1,7 +1,8 @@
 -- The registry of a run, together with all points of the run.
-use Rattle.std.specs.Prelude.{◌≡◌, List, false}
+use Rattle.std.specs.Prelude.{◌≡◌, ℕ, ◌≤◌, List, false}
 use Rattle.sk_model.specs.declared.point.Point.{Point}
-use Rattle.sk_weave.specs.Registry.{Regs}
+use Rattle.sk_weave.specs.declared.answer.CutFound.{CutFound}
+use Rattle.sk_weave.specs.Registry.{Regs, after_cut, cut_found, oldest_of}
 use Rattle.sk_points.specs.declared.points.Points.{Points}
 use Rattle.sk_points.specs.Stands.{StandsFor}
 use Rattle.sk_commit.specs.declared.asking.RegistryCall.{RegistryCall}
@@ -34,3 +35,15 @@ pub record Told (old : Logged) (asked : RegistryCall) (reply : RegistryReply) (n
   pub fits : RegFits asked reply
   pub not_early : is_early (Reg reply) ≡ false
   pub registered : Registered old asked reply new
+
+-- for each state that it stood for: both horizons were drawn, this is the cut there, and it stands for what that leaves
+abbrev pub CutsLog : Logged → ℕ → ℕ → CutFound → Logged → Type 0
+CutsLog old x y found new = (r : Regs) → Logs old r → (x ≤ r.mem) × (y ≤ r.store) × (found ≡ cut_found r x y r.store) × Logs new (after_cut r x y r.store)
+
+-- each state that it stood for
+abbrev pub LogsSame : Logged → Logged → Type 0
+LogsSame old new = (r : Regs) → Logs old r → Logs new r
+
+-- for each state that it stood for: this is its oldest live point, and it stands for that state
+abbrev pub ShowsOldest : Logged → Point → Logged → Type 0
+ShowsOldest old q new = (r : Regs) → Logs old r → (q ≡ oldest_of r) × Logs new r

@@ -5,11 +5,11 @@ use Rattle.sk_model.specs.declared.engine.EngineName.{EngineName}
 use Rattle.sk_model.specs.declared.engine.EngineName.TheVariants.{Mem, Store}
 use Rattle.sk_model.specs.declared.point.Point.{Point}
 use Rattle.sk_model.specs.declared.call.Entry.{Entry}
+use Rattle.sk_model.specs.Database.{Tables}
 use Rattle.sk_model.specs.Engine.{EngineTable, engine_at}
 use Rattle.sk_weave.specs.Registry.{regs_at}
 use Rattle.sk_mem.specs.declared.engine.MemEngine.{MemEngine}
 use Rattle.sk_store.specs.declared.engine.StoreEngine.{StoreEngine}
-use Rattle.sk_store.specs.Begun.{no_rows}
 use Rattle.sk_commit.specs.declared.asking.Wish.{Wish}
 use Rattle.sk_commit.specs.declared.asking.Got.{Got}
 use Rattle.sk_session.specs.Common.{Common, IsCommon, Answered}
@@ -22,10 +22,10 @@ abbrev pub start_of : EngineName → Point → ℕ
 start_of Mem p = p.a
 start_of Store p = p.b
 
--- what a run has that begins without rows
-abbrev pub first_common : List Table → ℕ → ℕ → Point → Common
-first_common catalog partitions size start = record {
-  first = λ name. engine_at name catalog (no_rows catalog) (start_of name start);
+-- what a run has that begins with these rows
+abbrev pub first_common : List Table → Tables → ℕ → ℕ → Point → Common
+first_common catalog rows partitions size start = record {
+  first = λ name. engine_at name catalog rows (start_of name start);
   journals = λ name. [];
   regs = regs_at partitions size start;
 }

@@ -1,10 +1,10 @@
-//! A call of a transaction on an engine that keeps a journal.
+//! Calls on an engine that keeps a journal.
 
 ghost use Rattle.std.specs.Prelude.{◌≡◌, ◌||◌, true, is_some, IfOk};
 ghost use Rattle.sk_commit.specs.Fits.{CallFits};
 ghost use Rattle.sk_session.specs.Conversing.{is_of_transaction};
 ghost use Rattle.sk_chain.specs.Applying.{takes_memory, entered_reply};
-ghost use Rattle.sk_shared.specs.Kept.{IsKept, Asks};
+ghost use Rattle.sk_shared.specs.Kept.{IsKept, Asks, MayMake};
 
 use sk_chain::{Engine, Noted};
 use sk_model::{EngineCall, EngineFault, EngineReply};
@@ -24,6 +24,30 @@ pub fn ask<G: Engine + Drop>(
     ensures asks { Asks G.stands engine.old call result engine.new }
 {
     if engine.entries() == u64::MAX {
+        return Err(Unanswered);
+    }
+    let may_want = takes_memory(&call);
+    let reply = engine.apply(call);
+    if is_answered(may_want, &reply) {
+        Ok(reply)
+    } else {
+        Err(Unanswered)
+    }
+}
+
+/// Makes a call of no transaction, and enters it with its reply.
+///
+/// There is no answer where the condition of the call does not hold, where the journal is full, and where a call that takes no memory found none. The journal is then as it was.
+pub fn ask_for_nobody<G: Engine + Drop>(
+    engine: &mut Noted<G>,
+    call: EngineCall,
+) -> Result<EngineReply, Unanswered>
+    requires told { G.told ≡ true }
+    requires kept { IsKept G.stands engine.old }
+    ensures may { IfOk result (λ _. MayMake G.stands engine.old call) }
+    ensures asks { Asks G.stands engine.old call result engine.new }
+{
+    if engine.entries() == u64::MAX || !engine.may(&call) {
         return Err(Unanswered);
     }
     let may_want = takes_memory(&call);

@@ -3,15 +3,16 @@
 ghost use Rattle.std.specs.Prelude.{◌≡◌, ◌∷◌, [], true, IfOk, OnErr};
 ghost use Rattle.sk_model.specs.declared.engine.EngineName.TheVariants.{Mem, Store};
 ghost use Rattle.sk_model.specs.Engine.{engine_at};
-ghost use Rattle.sk_store.specs.Begun.{no_rows};
+ghost use Rattle.sk_store.specs.Loading.{AreOpeningRows};
 ghost use Rattle.sk_commit.specs.Fits.{CallFits};
 ghost use Rattle.sk_session.specs.Conversing.{is_of_transaction};
 ghost use Rattle.sk_shared.specs.Kept.{Keeps, Asks};
+ghost use Rattle.sk_shared.specs.Pair.{AsksForNobody};
 
-use crate::asking::ask;
+use crate::asking::{ask, ask_for_nobody};
 use sk_chain::{Engine, Noted};
 use sk_mem::MemEngine;
-use sk_model::{EngineCall, EngineReply, Journal, KeyedRows, Point, Tables};
+use sk_model::{EngineCall, EngineName, EngineReply, Tables};
 use sk_rows::{Catalog, NoMemory};
 use sk_session::Unanswered;
 use sk_store::StoreEngine;
@@ -44,14 +45,20 @@ impl Model for Engines {
 }
 
 impl Engines {
-    /// Engines without rows, which begin with these numbers.
-    pub fn new(alloc: Global, catalog: &Catalog, a: u32, b: u32) -> Result<Engines, NoMemory>
-        ensures mem { IfOk result (λ x. Keeps ⟦<MemEngine as Engine>⟧.stands x.mem (engine_at Mem catalog.now (no_rows catalog.now) a) []) }
-        ensures store { IfOk result (λ x. Keeps ⟦<StoreEngine as Engine>⟧.stands x.store (engine_at Store catalog.now (no_rows catalog.now) b) []) }
+    /// Engines with these rows, one list a table, which begin with these numbers.
+    pub fn new(
+        alloc: Global,
+        catalog: &Catalog,
+        rows: &Tables,
+        a: u32,
+        b: u32,
+    ) -> Result<Engines, NoMemory>
+        requires { AreOpeningRows catalog.now rows.now }
+        ensures mem { IfOk result (λ x. Keeps ⟦<MemEngine as Engine>⟧.stands x.mem (engine_at Mem catalog.now rows.now a) []) }
+        ensures store { IfOk result (λ x. Keeps ⟦<StoreEngine as Engine>⟧.stands x.store (engine_at Store catalog.now rows.now b) []) }
     {
-        let rows = empty_tables(alloc, catalog)?;
-        let mem = MemEngine::new(alloc, catalog, &rows, a)?;
-        let store = StoreEngine::without_rows(alloc, catalog, b)?;
+        let mem = MemEngine::new(alloc, catalog, rows, a)?;
+        let store = StoreEngine::new(alloc, catalog, rows, b)?;
         Ok(Engines {
             mem: Noted::new(alloc, mem),
             store: Noted::new(alloc, store),
@@ -86,15 +93,18 @@ impl Engines {
     {
         ask(&mut self.store, call)
     }
-}
 
-/// No rows, for each table of the catalog.
-fn empty_tables(alloc: Global, catalog: &Catalog) -> Result<Tables, NoMemory>
-    ensures { IfOk result (λ rows. rows ≡ no_rows catalog.now) }
-{
-    let mut rows = Tables::new(alloc);
-    for _table in catalog.tables() {
-        rows.push(KeyedRows::new(alloc))?;
+    /// Makes a call of no transaction on this engine, and enters it with its reply.
+    pub fn ask_for_nobody(
+        &mut self,
+        name: EngineName,
+        call: EngineCall,
+    ) -> Result<EngineReply, Unanswered>
+        ensures { AsksForNobody ⟦<MemEngine as Engine>⟧.stands ⟦<StoreEngine as Engine>⟧.stands self.old name call result self.new }
+    {
+        match name {
+            EngineName::Mem => ask_for_nobody(&mut self.mem, call),
+            EngineName::Store => ask_for_nobody(&mut self.store, call),
+        }
     }
-    Ok(rows)
 }

@@ -4,10 +4,13 @@
 mod asking;
 mod engines;
 mod finished;
+mod flushing;
+mod joining;
 mod point_log;
 mod shared;
 
 pub use finished::Finished;
+pub use joining::join;
 pub use shared::Shared;
 
 #[cfg(test)]

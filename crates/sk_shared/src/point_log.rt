@@ -1,17 +1,17 @@
 //! The registry of a run, and all its points.
 
-ghost use Rattle.std.specs.Prelude.{◌≡◌, ◌≤◌, IfOk};
+ghost use Rattle.std.specs.Prelude.{◌≡◌, ◌≤◌, IfOk, OnErr};
 ghost use Rattle.sk_commit.specs.declared.asking.RegistryCall.TheVariants as call;
 ghost use Rattle.sk_weave.specs.Registry.{Regs, regs_at};
 ghost use Rattle.sk_weave.specs.RegistryLaws.{CanStart};
-ghost use Rattle.sk_shared.specs.Logged.{Logs, Told};
+ghost use Rattle.sk_shared.specs.Logged.{Logs, Told, CutsLog, LogsSame, ShowsOldest};
 
 use sk_commit::{RegistryCall, RegistryReply};
 use sk_model::PointList;
 use sk_points::Points;
 use sk_rows::{List, NoMemory};
 use sk_session::Unanswered;
-use sk_weave::{DrawFault, Point, Registry};
+use sk_weave::{CutFound, DrawFault, Point, Registry};
 use std::alloc::Global;
 use std::marker::Model;
 
@@ -160,5 +160,49 @@ impl PointLog {
             }
             Err(passed) => Ok(RegistryReply::Passed(passed)),
         }
+    }
+
+    /// The cut of a flush at these two horizons. There is no answer where one of them was not drawn, and where there is no room for the cut's point.
+    pub fn cut(&mut self, x: u32, y: u32) -> Result<CutFound, Unanswered>
+        ensures found { IfOk result (λ found. CutsLog self.old x y found self.new) }
+        ensures same { OnErr result (LogsSame self.old self.new) }
+    {
+        let mem = self.points.begin();
+        let store = self.points.store_now();
+        if x > mem || y > store {
+            return Err(Unanswered);
+        }
+        if self.all.reserve(1).is_err() {
+            return Err(Unanswered);
+        }
+        let found = self.points.cut(x, y);
+        if found.made {
+            self.all.push_reserved(Point {
+                a: x,
+                b: y,
+                commit: false,
+            });
+        }
+        Ok(found)
+    }
+
+    /// The oldest live point.
+    pub fn oldest(&mut self) -> Point
+        ensures { ShowsOldest self.old result self.new }
+    {
+        self.points.oldest()
+    }
+
+    /// The points from the first one on whose number of the memory engine is at least this.
+    pub fn points_from(&self, a: u32) -> &[Point] {
+        let all = self.all.as_slice();
+        let mut front = all;
+        while let [before @ .., last] = front {
+            if last.a < a {
+                break;
+            }
+            front = before;
+        }
+        all.get(front.len()..).unwrap_or(all)
     }
 }

@@ -2,6 +2,7 @@
 
 ghost use Rattle.std.specs.Prelude.{◌≡◌, true, false, IfOk};
 ghost use Rattle.sk_weave.specs.RegistryLaws.{CanStart};
+ghost use Rattle.sk_store.specs.Loading.{AreOpeningRows};
 ghost use Rattle.sk_commit.specs.declared.asking.Wish.TheVariants as wish;
 ghost use Rattle.sk_commit.specs.declared.asking.Got.TheVariants as given;
 ghost use Rattle.sk_commit.specs.Fits.{CallFits};
@@ -17,7 +18,7 @@ use crate::point_log::PointLog;
 use sk_chain::Engine;
 use sk_commit::{Got, Wish};
 use sk_mem::MemEngine;
-use sk_model::{EngineCall, EngineFault, EngineReply, Point};
+use sk_model::{EngineCall, EngineFault, EngineReply, Point, Tables};
 use sk_rows::{Catalog, NoMemory};
 use sk_session::{Desk, Unanswered};
 use sk_store::StoreEngine;
@@ -26,23 +27,25 @@ use std::alloc::Global;
 /// Both engines with their journals, and the registry with all points of the run: what the sessions of a run on one thread share.
 #[derive(Drop)]
 pub struct Shared {
-    engines: Engines,
-    log: PointLog,
+    pub(crate) engines: Engines,
+    pub(crate) log: PointLog,
 }
 
 impl Shared {
-    /// What a run begins with that has no rows: engines whose numbers begin at this selection, and a registry with so many partitions of so many points each.
+    /// What a run begins with: engines with these rows, one list a table, whose numbers begin at this selection, and a registry with so many partitions of so many points each.
     pub fn new(
         alloc: Global,
         catalog: &Catalog,
+        rows: &Tables,
         partitions: u32,
         size: u32,
         start: Point,
     ) -> Result<Shared, NoMemory>
-        requires { CanStart partitions size start }
-        ensures { IfOk result (λ x. Stands ⟦<MemEngine as Engine>⟧.stands ⟦<StoreEngine as Engine>⟧.stands x (first_common catalog.now partitions size start)) }
+        requires start { CanStart partitions size start }
+        requires rows { AreOpeningRows catalog.now rows.now }
+        ensures { IfOk result (λ x. Stands ⟦<MemEngine as Engine>⟧.stands ⟦<StoreEngine as Engine>⟧.stands x (first_common catalog.now rows.now partitions size start)) }
     {
-        let engines = Engines::new(alloc, catalog, start.a, start.b)?;
+        let engines = Engines::new(alloc, catalog, rows, start.a, start.b)?;
         let log = PointLog::new(alloc, partitions, size, start)?;
         Ok(Shared { engines, log })
     }

@@ -1,5 +1,8 @@
+ghost use Rattle.std.specs.Prelude.{◌≡◌, IfOk};
+ghost use Rattle.sk_store.specs.Begun.{no_rows};
+
 use super::*;
-use sk_model::{Point, Reply};
+use sk_model::{KeyedRows, Point, Reply, Tables};
 use sk_rows::{
     Begun, Catalog, Column, ColumnList, Expr, SetItem, SetList, Sort, Statement, Table, Txt, Value,
     ValueList,
@@ -105,6 +108,17 @@ fn statement(alloc: Global, say: Say) -> Result<Option<Statement>, Fail> {
     })
 }
 
+// No rows, for each table of the catalog.
+fn empty_tables(alloc: Global, catalog: &Catalog) -> Result<Tables, Fail>
+    ensures { IfOk result (λ rows. rows ≡ no_rows catalog.now) }
+{
+    let mut rows = Tables::new(alloc);
+    for _table in catalog.tables() {
+        rows.push(KeyedRows::new(alloc))?;
+    }
+    Ok(rows)
+}
+
 // Two sessions say these lines, and each is answered so.
 fn play(rt: &impl Abort, alloc: Global, lines: &[(u16, Say, Heard)]) -> Result<Shared, Fail> {
     let mut catalog = Catalog::new(alloc);
@@ -113,7 +127,8 @@ fn play(rt: &impl Abort, alloc: Global, lines: &[(u16, Say, Heard)]) -> Result<S
     {
         return Err("a table was refused")?;
     }
-    let mut shared = Shared::new(alloc, &catalog, 2, 8, START)?;
+    let rows = empty_tables(alloc, &catalog)?;
+    let mut shared = Shared::new(alloc, &catalog, &rows, 2, 8, START)?;
     let mut one = Session::new(alloc, 1);
     let mut two = Session::new(alloc, 2);
     for (number, say, want) in lines {
