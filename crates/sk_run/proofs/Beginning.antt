@@ -56,14 +56,13 @@ begins_at catalog rows partitions size start Mem = refl
 begins_at catalog rows partitions size start Store = refl
 
 module _ (mem : MemEngine → EngineTable → List Entry → Type 0) (store : StoreEngine → EngineTable → List Entry → Type 0) where
-  pub kept_first : (rows : Tables) (partitions size n : ℕ) (start : Point) (x : RunState) → n < 65536 → IsCatalog x.catalog → AreOpeningRows x.catalog rows → Stands mem store x.shared (first_common x.catalog rows partitions size start) → x.sessions ≡ map fresh (range_with_len 1 n) → HasKept mem store rows [] x
+  pub kept_first : (rows : Tables) (partitions size n : ℕ) (start : Point) (x : RunState) → n < 65536 → IsCatalog x.catalog → AreOpeningRows x.catalog rows → Stands mem store x.shared (first_common x.catalog rows partitions size start) → x.sessions ≡ map fresh (range_with_len 1 n) → HasKept mem store (record { rows = rows; first = start }) [] [] x
   kept_first rows partitions size n start x few tables opening stood sessions = record {
     tables = tables;
     opening = opening;
     few = subst (λ m. m < 65536) (sym (ap length sessions ∙ length-map-range_with_len fresh 1 n)) few;
     common = first_common x.catalog rows partitions size start;
     stood = stood;
-    first = start;
     begun = begins_at x.catalog rows partitions size start;
     points = [];
     players = map new_player (range_with_len 1 n);
@@ -72,4 +71,5 @@ module _ (mem : MemEngine → EngineTable → List Entry → Type 0) (store : St
     between = all_between 1 n;
     told = subst (AreTold 1 []) (sym sessions) (all_told 1 n);
     short = tt;
+    flushed = tt;
   }

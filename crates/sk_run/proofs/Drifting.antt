@@ -27,13 +27,15 @@ use Rattle.sk_shared.specs.Flushing.{FlushedWith, Flushed, HasCut, FindsCut, Fin
 use Rattle.sk_kept.specs.Flushing.{Cuts}
 use Rattle.sk_kept.specs.Sessions.{Player, IsRun}
 use Rattle.sk_kept.proofs.Flushing.{flush_calls_keep, cuts_keep}
-use Rattle.sk_run.specs.Told.{AreTold}
+use Rattle.sk_recorded.specs.Flushes.{Flush, AllFlush}
+use Rattle.sk_recorded.proofs.Grown.{grows_none, grows_more, flush_calls_grow, cuts_grow}
+use Rattle.sk_run.specs.Told.{RunLine, AreTold}
 use Rattle.sk_run.specs.State.{RunState}
-use Rattle.sk_run.specs.Kept.{IsKept}
+use Rattle.sk_run.specs.Kept.{Beginning, HasKept, IsKept}
 use Rattle.sk_run.specs.Flushing.{DriftsTo, Drifts, Gives, KeepsStill}
-use Rattle.sk_run.proofs.Going.{begins_still}
+use Rattle.sk_run.proofs.Going.{begins_still, flushes_still}
 
-in_last : {X : Type 0} (x : X) (ys : List X) → In x (ys ++ x ∷ [])
+pub in_last : {X : Type 0} (x : X) (ys : List X) → In x (ys ++ x ∷ [])
 in_last x [] = inl refl
 in_last x (y ∷ ys) = inr (in_last x ys)
 
@@ -46,7 +48,7 @@ module _ (mem : MemEngine → EngineTable → List Entry → Type 0) (store : St
   drifts_same old new same catalog first points c players st run = record {
     common = c;
     stood = same c st;
-    begun = refl;
+    grows = grows_none c;
     more = [];
     run = subst (λ ps. IsRun catalog first ps c players) (sym (append-nil points)) run;
   }
@@ -61,7 +63,7 @@ module _ (mem : MemEngine → EngineTable → List Entry → Type 0) (store : St
       record {
         common = b.common;
         stood = b.stood;
-        begun = b.begun ∙ a.begun;
+        grows = grows_more c a.common b.common a.grows b.grows;
         more = a.more ++ b.more;
         run = subst (λ ps. IsRun catalog first ps b.common players) (append_assoc points a.more b.more) b.run;
       }
@@ -72,7 +74,7 @@ module _ (mem : MemEngine → EngineTable → List Entry → Type 0) (store : St
       record {
         common = k.0;
         stood = k.2;
-        begun = k.1.first;
+        grows = flush_calls_grow c k.0 name asked said k.1;
         more = [];
         run = subst (λ ps. IsRun catalog first ps k.0 players) (sym (append-nil points)) (flush_calls_keep catalog first points c k.0 players name asked said run k.1);
       }
@@ -110,7 +112,13 @@ module _ (mem : MemEngine → EngineTable → List Entry → Type 0) (store : St
         common = k.2.common;
       } in
       let went = cuts_keep catalog first points b.0 k.1 players x y ran cut in
-      record { common = k.1; stood = k.3; begun = k.2.first ∙ b.1.first ∙ a.1.first; more = went.0; run = went.1 }
+      record {
+        common = k.1;
+        stood = k.3;
+        grows = grows_more c b.0 k.1 (grows_more c a.0 b.0 (flush_calls_grow c a.0 Mem call.Horizon (reply.Number x) a.1) (flush_calls_grow a.0 b.0 Store call.Horizon (reply.Number y) b.1)) (cuts_grow b.0 k.1 x y cut);
+        more = went.0;
+        run = went.1;
+      }
 
   pub cut_drifts : {E : Type 0} (old one two new : Shared) (x y : ℕ) (result : Result CutFound E) → Gives mem store old Mem call.Horizon (reply.Number x) one → Gives mem store one Store call.Horizon (reply.Number y) two
       → FindsCut mem store two x y result new → Drifts mem store old new
@@ -121,31 +129,36 @@ module _ (mem : MemEngine → EngineTable → List Entry → Type 0) (store : St
   pub oldest_drifts : (old new : Shared) (q : Point) → FindsOldest mem store old q new → Drifts mem store old new
   oldest_drifts old new q h = drifts_same old new (λ c st. (h c st).1)
 
+  -- where the same sessions went on so, and these flushes were made, it has kept these
+  pub kept_with : (old new : RunState) → new.catalog ≡ old.catalog → new.sessions ≡ old.sessions → (b : Beginning) (lines : List RunLine) (fs : List Flush) (k : HasKept mem store b lines fs old)
+      (g : Goes old.catalog b.first k.points k.common k.players new.shared) (made : List Flush) → AllFlush (b.first ∷ k.points ++ g.more) g.common.journals b.first made → HasKept mem store b lines made new
+  kept_with old new catalog sessions b lines fs k g made flushed = record {
+    tables = subst IsCatalog (sym catalog) k.tables;
+    opening = subst (λ (tables : List Table). AreOpeningRows tables b.rows) (sym catalog) k.opening;
+    few = subst (λ (ss : List Session). length ss < 65536) (sym sessions) k.few;
+    common = g.common;
+    stood = g.stood;
+    begun = begins_still k.common.first g.common.first old.catalog new.catalog b.rows b.first catalog g.grows.first k.begun;
+    points = k.points ++ g.more;
+    players = k.players;
+    sessions_are = sessions ∙ k.sessions_are;
+    run = subst (λ (tables : List Table). IsRun tables b.first (k.points ++ g.more) g.common k.players) (sym catalog) g.run;
+    between = k.between;
+    told = subst (AreTold 1 lines) (sym sessions) k.told;
+    short = k.short;
+    flushed = flushed;
+  }
+
   -- so the run has kept what it kept
   pub keeps_still : (old new : RunState) → new.catalog ≡ old.catalog → new.sessions ≡ old.sessions → Drifts mem store old.shared new.shared → KeepsStill mem store old new
   keeps_still old new catalog sessions drifts = record {
     catalog = catalog;
     sessions = sessions;
-    kept = λ rows lines k.
-        let g : Goes old.catalog k.first k.points k.common k.players new.shared = drifts old.catalog k.first k.points k.common k.players k.stood k.run in
-        record {
-          tables = subst IsCatalog (sym catalog) k.tables;
-          opening = subst (λ (tables : List Table). AreOpeningRows tables rows) (sym catalog) k.opening;
-          few = subst (λ (ss : List Session). length ss < 65536) (sym sessions) k.few;
-          common = g.common;
-          stood = g.stood;
-          first = k.first;
-          begun = begins_still k.common.first g.common.first old.catalog new.catalog rows k.first catalog g.begun k.begun;
-          points = k.points ++ g.more;
-          players = k.players;
-          sessions_are = sessions ∙ k.sessions_are;
-          run = subst (λ (tables : List Table). IsRun tables k.first (k.points ++ g.more) g.common k.players) (sym catalog) g.run;
-          between = k.between;
-          told = subst (AreTold 1 lines) (sym sessions) k.told;
-          short = k.short;
-        };
+    kept = λ b lines fs k.
+        let g : Goes old.catalog b.first k.points k.common k.players new.shared = drifts old.catalog b.first k.points k.common k.players k.stood k.run in
+        kept_with old new catalog sessions b lines fs k g fs (flushes_still k.common g.common b.first k.points g.more fs g.grows k.flushed);
   }
 
   -- and goes on being a run
   pub kept_still : (old new : RunState) → KeepsStill mem store old new → IsKept mem store old → IsKept mem store new
-  kept_still old new still (rows, lines, k) = (rows, lines, still.kept rows lines k)
+  kept_still old new still (b, lines, fs, k) = (b, lines, fs, still.kept b lines fs k)

@@ -9,7 +9,6 @@ use Rattle.sk_model.specs.declared.commit.Commit.{Commit}
 use Rattle.sk_model.specs.declared.point.Point.{Point}
 use Rattle.sk_model.specs.declared.record.Record.{Record}
 use Rattle.sk_model.specs.declared.call.Entry.{Entry}
-use Rattle.sk_model.specs.Database.{Tables}
 use Rattle.sk_model.specs.Engine.{EngineTable}
 use Rattle.sk_model.specs.Places.{place}
 use Rattle.sk_model.specs.Records.{InTurn, OneDatabase}
@@ -39,12 +38,14 @@ use Rattle.sk_shared.specs.declared.finished.Finished.{Finished}
 use Rattle.sk_kept.specs.Sessions.{Player}
 use Rattle.sk_kept.specs.Ended.{accounts_of, session_of, play_of, AreShort, IsPaused}
 use Rattle.sk_kept.proofs.Ended.{paused_is_one}
+use Rattle.sk_recorded.specs.Flushes.{Flush}
 use Rattle.sk_ledger.specs.Ledger.{IsLeftBy}
 use Rattle.sk_run.specs.Told.{RunLine, IsShort, AreTold, AreSaid, lines_of}
 use Rattle.sk_run.specs.State.{RunState}
-use Rattle.sk_run.specs.Kept.{HasKept, IsKept}
-use Rattle.sk_run.specs.Ended.{AreSteps, joined, HasEnded}
+use Rattle.sk_run.specs.Kept.{Beginning, HasKept, IsKept}
+use Rattle.sk_run.specs.Ended.{AreSteps, joined, ShowPrefixes, CutsAreAmong, HasEnded}
 use Rattle.sk_run.specs.declared.ended.Ended.{Ended}
+use Rattle.sk_run.proofs.Showing.{show_prefixes, cuts_among}
 use Rattle.sk_run.proofs.Lines.{lines_short, prints_short, records_short}
 
 -- ---- one session
@@ -110,8 +111,8 @@ same_left p ms ns ps qs rs us q r l = record { is_play = l.is_play; mem_is = l.m
 
 module _ (mem : MemEngine → EngineTable → List Entry → Type 0) (store : StoreEngine → EngineTable → List Entry → Type 0) where
   -- between two lines of all its sessions
-  pub paused : (rows : Tables) (lines : List RunLine) (x : RunState) (k : HasKept mem store rows lines x) → IsPaused x.catalog rows k.first k.points k.common k.players
-  paused rows lines x k = record {
+  pub paused : (b : Beginning) (lines : List RunLine) (fs : List Flush) (x : RunState) (k : HasKept mem store b lines fs x) → IsPaused x.catalog b.rows b.first k.points k.common k.players
+  paused b lines fs x k = record {
     tables = k.tables;
     opening = k.opening.count;
     fit = k.opening.fit;
@@ -122,14 +123,14 @@ module _ (mem : MemEngine → EngineTable → List Entry → Type 0) (store : St
     texts = are_short 1 lines k.players k.short k.between (subst (AreTold 1 lines) k.sessions_are k.told);
   }
 
-  abbrev played : (rows : Tables) (lines : List RunLine) (x : RunState) → HasKept mem store rows lines x → Play
-  played rows lines x k = play_of x.catalog rows k.first k.points k.common k.players
+  abbrev played : (b : Beginning) (lines : List RunLine) (fs : List Flush) (x : RunState) → HasKept mem store b lines fs x → Play
+  played b lines fs x k = play_of x.catalog b.rows b.first k.points k.common k.players
 
   -- it is what was left, with its records
-  left_by : (rows : Tables) (lines : List RunLine) (x : RunState) (k : HasKept mem store rows lines x) (finished : Finished) (records : List Record) → IsLeft finished k.common → records ≡ joined (map records_now x.sessions)
-      → IsLeftBy (played rows lines x k) finished.mem_journal finished.store_journal finished.points records
-  left_by rows lines x k finished records here are = record {
-    is_play = (paused_is_one x.catalog rows k.first k.points k.common k.players (paused rows lines x k)).0;
+  left_by : (b : Beginning) (lines : List RunLine) (fs : List Flush) (x : RunState) (k : HasKept mem store b lines fs x) (finished : Finished) (records : List Record) → IsLeft finished k.common → records ≡ joined (map records_now x.sessions)
+      → IsLeftBy (played b lines fs x k) finished.mem_journal finished.store_journal finished.points records
+  left_by b lines fs x k finished records here are = record {
+    is_play = (paused_is_one x.catalog b.rows b.first k.points k.common k.players (paused b lines fs x k)).0;
     mem_is = here.mem_entered;
     store_is = here.store_entered;
     points_are = here.pointed ∙ k.run.running.held.points_are;
@@ -139,7 +140,7 @@ module _ (mem : MemEngine → EngineTable → List Entry → Type 0) (store : St
   -- some run of sessions left this
   pub was_left : (x : RunState) (finished : Finished) (records : List Record) → IsKept mem store x → ((c : Common) → Stands mem store x.shared c → IsLeft finished c) → records ≡ joined (map records_now x.sessions)
       → (p : Play) × IsLeftBy p finished.mem_journal finished.store_journal finished.points records
-  was_left x finished records (rows, lines, k) left are = (played rows lines x k, left_by rows lines x k finished records (left k.common k.stood) are)
+  was_left x finished records (b, lines, fs, k) left are = (played b lines fs x k, left_by b lines fs x k finished records (left k.common k.stood) are)
 
   -- the list of the run that left this
   abbrev pub IsOrderOf : Finished → List Record → List Commit → Type 0
@@ -148,24 +149,24 @@ module _ (mem : MemEngine → EngineTable → List Entry → Type 0) (store : St
   -- its list rises
   pub in_turn : (x : RunState) (finished : Finished) (records : List Record) (order : List Commit) → IsKept mem store x → ((c : Common) → Stands mem store x.shared c → IsLeft finished c) → records ≡ joined (map records_now x.sessions)
       → IsOrderOf finished records order → InTurn (λ (c : Commit). c.mem) order × InTurn (λ (c : Commit). c.store) order
-  in_turn x finished records order (rows, lines, k) left are is_order =
-      let one : IsPlay (played rows lines x k) × OneDatabase x.catalog rows (order_of (run_of (traces_in (played rows lines x k)))) (map (place_of (run_of (traces_in (played rows lines x k)))) (traces_in (played rows lines x k)).transactions) (records_in (played rows lines x k)) =
-      paused_is_one x.catalog rows k.first k.points k.common k.players (paused rows lines x k) in
-      let is : order_of (run_of (traces_in (played rows lines x k))) ≡ order = sym (is_order (played rows lines x k) (left_by rows lines x k finished records (left k.common k.stood) are)) in
+  in_turn x finished records order (b, lines, fs, k) left are is_order =
+      let one : IsPlay (played b lines fs x k) × OneDatabase x.catalog b.rows (order_of (run_of (traces_in (played b lines fs x k)))) (map (place_of (run_of (traces_in (played b lines fs x k)))) (traces_in (played b lines fs x k)).transactions) (records_in (played b lines fs x k)) =
+      paused_is_one x.catalog b.rows b.first k.points k.common k.players (paused b lines fs x k) in
+      let is : order_of (run_of (traces_in (played b lines fs x k))) ≡ order = sym (is_order (played b lines fs x k) (left_by b lines fs x k finished records (left k.common k.stood) are)) in
       (subst (InTurn (λ (c : Commit). c.mem)) is one.1.by_mem, subst (InTurn (λ (c : Commit). c.store)) is one.1.by_store)
 
   -- so its list is that of its sessions, and what it hands out is of one database
-  pub ended : (rows : Tables) (lines steps : List RunLine) (x : RunState) (finished : Finished) (y : Ended) (parts : List (List Record)) → AreSteps steps → HasKept mem store rows (lines ++ steps) x
+  pub ended : (b : Beginning) (lines steps : List RunLine) (fs : List Flush) (x : RunState) (finished : Finished) (y : Ended) (parts : List (List Record)) → AreSteps steps → HasKept mem store b (lines ++ steps) fs x
       → ((c : Common) → Stands mem store x.shared c → IsLeft finished c) → IsOrderOf finished y.records y.order
       → parts ≡ map records_now x.sessions → y.records ≡ joined parts → y.places ≡ map (λ (r : Record). place y.order r.mem r.store) y.records
-      → y.mem ≡ finished.mem_journal → y.store ≡ finished.store_journal → y.points ≡ finished.points → HasEnded x.catalog rows lines y
-  ended rows lines steps x finished y parts are_steps k left is_order parts_are records places mem_is store_is points_are =
+      → y.mem ≡ finished.mem_journal → y.store ≡ finished.store_journal → y.points ≡ finished.points → HasEnded x.catalog b lines fs y
+  ended b lines steps fs x finished y parts are_steps k left is_order parts_are records places mem_is store_is points_are =
       let told : AreTold 1 (lines ++ steps) (map (λ (p : Player). p.session) k.players) = subst (AreTold 1 (lines ++ steps)) k.sessions_are k.told in
-      let play : Play = played rows (lines ++ steps) x k in
+      let play : Play = played b (lines ++ steps) fs x k in
       let run : CommitRun = run_of (traces_in play) in
-      let one : IsPlay play × OneDatabase x.catalog rows (order_of run) (map (place_of run) (traces_in play).transactions) (records_in play) =
-      paused_is_one x.catalog rows k.first k.points k.common k.players (paused rows (lines ++ steps) x k) in
-      let by : IsLeftBy play finished.mem_journal finished.store_journal finished.points y.records = left_by rows (lines ++ steps) x k finished y.records (left k.common k.stood) (records ∙ ap joined parts_are) in
+      let one : IsPlay play × OneDatabase x.catalog b.rows (order_of run) (map (place_of run) (traces_in play).transactions) (records_in play) =
+      paused_is_one x.catalog b.rows b.first k.points k.common k.players (paused b (lines ++ steps) fs x k) in
+      let by : IsLeftBy play finished.mem_journal finished.store_journal finished.points y.records = left_by b (lines ++ steps) fs x k finished y.records (left k.common k.stood) (records ∙ ap joined parts_are) in
       let handed : parts ≡ map records_now (map (λ (p : Player). p.session) k.players) = parts_are ∙ ap (map records_now) k.sessions_are in
       let order : y.order ≡ order_of run = is_order play by in
       let at : map (place_of run) (traces_in play).transactions ≡ y.places =
@@ -180,12 +181,14 @@ module _ (mem : MemEngine → EngineTable → List Entry → Type 0) (store : St
         points_are = points_are ∙ by.points_are;
         records_are = by.records_are;
         order_is = order;
-        one = subst (OneDatabase x.catalog rows y.order y.places) (sym by.records_are)
-            (subst (λ ps. OneDatabase x.catalog rows y.order ps (records_in play)) at
-            (subst (λ cs. OneDatabase x.catalog rows cs (map (place_of run) (traces_in play).transactions) (records_in play)) (sym order) one.1));
+        one = subst (OneDatabase x.catalog b.rows y.order y.places) (sym by.records_are)
+            (subst (λ ps. OneDatabase x.catalog b.rows y.order ps (records_in play)) at
+            (subst (λ cs. OneDatabase x.catalog b.rows cs (map (place_of run) (traces_in play).transactions) (records_in play)) (sym order) one.1));
         steps = steps;
         are_steps = are_steps;
         parts = parts;
         are_parts = records;
         said = subst (AreSaid 1 (lines ++ steps)) (sym handed) (are_said 1 (lines ++ steps) k.players k.between told);
+        shows = subst (ShowPrefixes x.catalog b fs) (sym order) (show_prefixes x.catalog b k.points k.common k.players (paused b (lines ++ steps) fs x k) fs k.flushed);
+        cuts = subst (CutsAreAmong b fs) (sym (points_are ∙ by.points_are)) (cuts_among b k.points k.common.journals fs k.flushed);
       }

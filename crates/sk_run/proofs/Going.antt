@@ -16,6 +16,8 @@ use Rattle.sk_model.specs.Engine.{EngineTable, engine_at}
 use Rattle.sk_model.specs.Talks.{Talk}
 use Rattle.sk_model.proofs.Lists.{Each, each_append}
 use Rattle.sk_weave.specs.Reads.{number_at}
+use Rattle.sk_linked.specs.Traces.{In}
+use Rattle.sk_linked.proofs.Members.{in_front}
 use Rattle.sk_store.specs.Loading.{AreOpeningRows}
 use Rattle.sk_mem.specs.declared.engine.MemEngine.{MemEngine}
 use Rattle.sk_store.specs.declared.engine.StoreEngine.{StoreEngine}
@@ -30,7 +32,10 @@ use Rattle.sk_session.specs.Common.{Common}
 use Rattle.sk_shared.specs.Shared.{Stands, Answers}
 use Rattle.sk_kept.specs.Sessions.{Player, IsRun, AnswersRight, GoesOn}
 use Rattle.sk_kept.proofs.Middles.{each_others, each_focus, each_middle}
-use Rattle.sk_kept.proofs.Sessions.{lines_keep, leaves_keep}
+use Rattle.sk_recorded.specs.Flushes.{Flush, AllFlush}
+use Rattle.sk_recorded.specs.Growing.{Grows, StandsGrown}
+use Rattle.sk_recorded.proofs.Growing.{flushes_stay}
+use Rattle.sk_recorded.proofs.Grown.{lines_keep_growing, leaves_keep_growing}
 use Rattle.sk_run.specs.Told.{RunLine, IsShort, AreTold}
 use Rattle.sk_run.specs.Kept.{KeepsOn}
 use Rattle.sk_run.specs.State.{RunState}
@@ -77,6 +82,12 @@ pub begins_still : (before now : EngineName → EngineTable) (catalog later : Li
     → ((name : EngineName) → before name ≡ engine_at name catalog rows (number_at name start)) → (name : EngineName) → now name ≡ engine_at name later rows (number_at name start)
 begins_still before now catalog later rows start same is begun name = ap (λ (f : EngineName → EngineTable). f name) is ∙ begun name ∙ ap (λ tables. engine_at name tables rows (number_at name start)) (sym same)
 
+-- ---- what the flushes wrote
+
+-- it stays while what is common grows
+pub flushes_still : (c d : Common) (first : Point) (points more : List Point) (fs : List Flush) → Grows c d → AllFlush (first ∷ points) c.journals first fs → AllFlush (first ∷ points ++ more) d.journals first fs
+flushes_still c d first points more fs g k = flushes_stay (first ∷ points) more c.journals d.journals first fs (λ name j i. subst (In j) (sym (g.journals name).1) (in_front j (c.journals name) (g.journals name).0 i)) k
+
 -- ---- a line
 
 module _ (mem : MemEngine → EngineTable → List Entry → Type 0) (store : StoreEngine → EngineTable → List Entry → Type 0) where
@@ -86,13 +97,13 @@ module _ (mem : MemEngine → EngineTable → List Entry → Type 0) (store : St
   -- what a session of the run did keeps what the run has kept, whatever the calls were that it made
   abbrev Goes : RunState → Session → Session → RunState → Type 0
   Goes old speaker spoken new = (first : Point) (points : List Point) (c : Common) (before : List Player) (talks : List Talk) (after : List Player) → Stands mem store old.shared c
-      → IsRun old.catalog first points c (before ++ record { session = speaker; talks = talks } ∷ after) → IsBetween speaker.at → GoesOn (Stands mem store) old.catalog first points c before spoken after new.shared × IsBetween spoken.at
+      → IsRun old.catalog first points c (before ++ record { session = speaker; talks = talks } ∷ after) → IsBetween speaker.at → GoesOn (StandsGrown (Stands mem store) c) old.catalog first points c before spoken after new.shared × IsBetween spoken.at
 
   -- the session of this number, which stands behind so many others, has answered the line
   turn_keeps : (old new : RunState) (number at : ℕ) (s : Option Statement) (speaker spoken : Session) (reply : Reply) → number ≡ at + 1 → at < length old.sessions
       → speaker ≡ get_or old.sessions at speaker → new.sessions ≡ set old.sessions at spoken → new.catalog ≡ old.catalog
       → Goes old speaker spoken new → spoken.number ≡ speaker.number → LinePrints speaker s spoken reply → IsShort s → KeepsOn mem store old number s new reply
-  turn_keeps old new number at s speaker spoken reply counts inside is set_to same goes_on same_number prints short rows lines k =
+  turn_keeps old new number at s speaker spoken reply counts inside is set_to same goes_on same_number prints short b lines fs k =
       let m : Middle k.players at = middle_of k.players at (subst (λ n. at < n) (ap length k.sessions_are ∙ length-map k.players (λ (p : Player). p.session)) inside) in
       let split : old.sessions ≡ map (λ (p : Player). p.session) m.before ++ m.one.session ∷ map (λ (p : Player). p.session) m.after =
       k.sessions_are ∙ ap (map (λ (p : Player). p.session)) m.is ∙ map-append (λ (p : Player). p.session) m.before (m.one ∷ m.after) in
@@ -101,9 +112,9 @@ module _ (mem : MemEngine → EngineTable → List Entry → Type 0) (store : St
       sym (is ∙ ap (λ xs. get_or xs at speaker) split ∙ ap (λ i. get_or (map (λ (p : Player). p.session) m.before ++ m.one.session ∷ map (λ (p : Player). p.session) m.after) i speaker) (sym place)
       ∙ get_or-append_seam (map (λ (p : Player). p.session) m.before) m.one.session (map (λ (p : Player). p.session) m.after) speaker) in
       let between : Each (λ (p : Player). IsBetween p.session.at) (m.before ++ m.one ∷ m.after) = subst (Each (λ (p : Player). IsBetween p.session.at)) m.is k.between in
-      let goes : GoesOn (Stands mem store) old.catalog k.first k.points k.common m.before spoken m.after new.shared × IsBetween spoken.at =
-      goes_on k.first k.points k.common m.before m.one.talks m.after k.stood
-      (subst (λ (y : Session). IsRun old.catalog k.first k.points k.common (m.before ++ record { session = y; talks = m.one.talks } ∷ m.after)) who (subst (IsRun old.catalog k.first k.points k.common) m.is k.run))
+      let goes : GoesOn (StandsGrown (Stands mem store) k.common) old.catalog b.first k.points k.common m.before spoken m.after new.shared × IsBetween spoken.at =
+      goes_on b.first k.points k.common m.before m.one.talks m.after k.stood
+      (subst (λ (y : Session). IsRun old.catalog b.first k.points k.common (m.before ++ record { session = y; talks = m.one.talks } ∷ m.after)) who (subst (IsRun old.catalog b.first k.points k.common) m.is k.run))
       (subst (λ (y : Session). IsBetween y.at) who (each_focus (λ (p : Player). IsBetween p.session.at) m.before m.one m.after between)) in
       let spoke : Player = record { session = spoken; talks = goes.0.talks } in
       let sessions : new.sessions ≡ map (λ (p : Player). p.session) m.before ++ spoken ∷ map (λ (p : Player). p.session) m.after =
@@ -111,22 +122,22 @@ module _ (mem : MemEngine → EngineTable → List Entry → Type 0) (store : St
       ∙ set-append_seam (map (λ (p : Player). p.session) m.before) m.one.session (map (λ (p : Player). p.session) m.after) spoken in
       record {
         tables = subst IsCatalog (sym same) k.tables;
-        opening = subst (λ catalog. AreOpeningRows catalog rows) (sym same) k.opening;
+        opening = subst (λ catalog. AreOpeningRows catalog b.rows) (sym same) k.opening;
         few = subst (λ n. n < 65536) (sym (ap length set_to ∙ length-set old.sessions at spoken)) k.few;
         common = goes.0.common;
-        stood = goes.0.stood;
-        first = k.first;
-        begun = begins_still k.common.first goes.0.common.first old.catalog new.catalog rows k.first same goes.0.begun k.begun;
+        stood = goes.0.stood.0;
+        begun = begins_still k.common.first goes.0.common.first old.catalog new.catalog b.rows b.first same goes.0.begun k.begun;
         points = k.points ++ goes.0.more;
         players = m.before ++ spoke ∷ m.after;
         sessions_are = sessions ∙ sym (map-append (λ (p : Player). p.session) m.before (spoke ∷ m.after));
-        run = subst (λ catalog. IsRun catalog k.first (k.points ++ goes.0.more) goes.0.common (m.before ++ spoke ∷ m.after)) (sym same) goes.0.run;
+        run = subst (λ catalog. IsRun catalog b.first (k.points ++ goes.0.more) goes.0.common (m.before ++ spoke ∷ m.after)) (sym same) goes.0.run;
         between = each_middle (λ (p : Player). IsBetween p.session.at) m.before spoke m.after (each_others (λ (p : Player). IsBetween p.session.at) m.before m.one m.after between) goes.1;
         told = subst (AreTold 1 (lines ++ line_by number (s, reply) ∷ [])) (sym sessions)
             (told_on 1 number (map (λ (p : Player). p.session) m.before) m.one.session spoken (map (λ (p : Player). p.session) m.after) lines (s, reply) (counts ∙ ap (λ n. n + 1) (sym place))
             (same_number ∙ ap (λ (y : Session). y.number) (sym who))
             (λ xs h. subst (λ y. LinePrints y s spoken reply) (sym who) prints xs h) (subst (AreTold 1 lines) split k.told));
         short = each_append (λ (l : RunLine). IsShort l.line.0) lines (line_by number (s, reply) ∷ []) k.short (short, tt);
+        flushed = flushes_still k.common goes.0.common b.first k.points goes.0.more fs goes.0.stood.1 k.flushed;
       }
 
   -- a line of the session
@@ -135,7 +146,7 @@ module _ (mem : MemEngine → EngineTable → List Entry → Type 0) (store : St
       → Conversed (Answers mem store) old.catalog speaker old.shared s spoken new.shared reply → LinePrints speaker s spoken reply → IsShort s → KeepsOn mem store old number s new reply
   line_keeps old new number at s speaker spoken reply counts inside is set_to same x prints short =
       turn_keeps old new number at s speaker spoken reply counts inside is set_to same
-      (λ first points c before talks after stood run between. lines_keep (Answers mem store) (Stands mem store) right old.catalog first points c before speaker talks after old.shared s spoken new.shared reply stood run between x)
+      (λ first points c before talks after stood run between. lines_keep_growing (Answers mem store) (Stands mem store) right old.catalog first points c before speaker talks after old.shared s spoken new.shared reply stood run between x)
       (conversed_number (Answers mem store) old.catalog speaker old.shared s spoken new.shared reply x) prints short
 
   -- and leaving it
@@ -144,5 +155,5 @@ module _ (mem : MemEngine → EngineTable → List Entry → Type 0) (store : St
       → HasLeft (Answers mem store) old.catalog speaker old.shared spoken new.shared reply → LinePrints speaker None spoken reply → KeepsOn mem store old number None new reply
   leave_keeps old new number at speaker spoken reply counts inside is set_to same x prints =
       turn_keeps old new number at None speaker spoken reply counts inside is set_to same
-      (λ first points c before talks after stood run between. leaves_keep (Answers mem store) (Stands mem store) right old.catalog first points c before speaker talks after old.shared spoken new.shared reply stood run between x)
+      (λ first points c before talks after stood run between. leaves_keep_growing (Answers mem store) (Stands mem store) right old.catalog first points c before speaker talks after old.shared spoken new.shared reply stood run between x)
       (left_number (Answers mem store) old.catalog speaker old.shared spoken new.shared reply x) prints tt

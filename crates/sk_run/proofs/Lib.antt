@@ -8,8 +8,12 @@ pub mod Beginning
 pub mod Going
 -- What the table of refusals refuses
 pub mod Refusing
+-- What a disk shows behind a flush
+pub mod Showing
 -- What a flush asks leaves a run that goes on
 pub mod Drifting
+-- What a flush finds is a flush behind the others
+pub mod Finding
 -- Sessions that end
 pub mod Settling
 -- What a run hands out

@@ -64,7 +64,7 @@ module _ (catalog : List Table) where
 
 pub line_refuses_on : (mem : MemEngine → EngineTable → List Entry → Type 0) (store : StoreEngine → EngineTable → List Entry → Type 0) (old new : RunState) (number at : ℕ) (s : Option Statement) (speaker spoken : Session) (reply : Reply) → number ≡ at + 1
     → at < length old.sessions → speaker ≡ get_or old.sessions at speaker → new.sessions ≡ set old.sessions at spoken → LineRefuses old.catalog speaker s spoken reply → RefusesOn mem store old number s new reply
-line_refuses_on mem store old new number at s speaker spoken reply counts inside is set_to one rows lines k h =
+line_refuses_on mem store old new number at s speaker spoken reply counts inside is set_to one b lines fs k h =
     let m : Middle old.sessions at = middle_of old.sessions at inside in
     let who : m.one ≡ speaker =
     sym (is ∙ ap (λ xs. get_or xs at speaker) m.is ∙ ap (λ i. get_or (m.before ++ m.one ∷ m.after) i speaker) (sym m.place) ∙ get_or-append_seam m.before m.one m.after speaker) in

@@ -1,9 +1,19 @@
 //! What a flush finds in a run: how far all is decided, and the commits up to there.
 
-ghost use Rattle.std.specs.Prelude.{IfOk};
+ghost use Rattle.std.specs.Prelude.{◌≡◌, true, IfOk};
 ghost use Rattle.sk_model.specs.declared.call.EngineCall.TheVariants as call;
 ghost use Rattle.sk_model.specs.declared.call.EngineReply.TheVariants as reply;
-ghost use Rattle.sk_run.specs.Flushing.{Drifts, Gives, KeepsStill};
+ghost use Rattle.sk_weave.specs.Reads.{number_at};
+ghost use Rattle.sk_run.specs.Flushing.{
+  Drifts,
+  FindsBatch,
+  FindsOn,
+  FindsPoint,
+  Gives,
+  IsPast,
+  Joins,
+  KeepsStill,
+};
 
 use crate::end_fault::EndFault;
 use crate::run::Run;
@@ -37,7 +47,8 @@ fn horizon(shared: &mut Shared, name: EngineName) -> Result<u32, EndFault>
 
 /// The cut that a flush may reach now: what both engines have decided, and no transaction may come between. There is none where the oldest live point is past that.
 fn find_cut(shared: &mut Shared) -> Result<Option<Point>, EndFault>
-    ensures { Drifts ⟦<MemEngine as Engine>⟧.stands ⟦<StoreEngine as Engine>⟧.stands shared.old shared.new }
+    ensures point { IfOk result (λ cut. FindsPoint ⟦<MemEngine as Engine>⟧.stands ⟦<StoreEngine as Engine>⟧.stands shared.old cut shared.new) }
+    ensures drifts { Drifts ⟦<MemEngine as Engine>⟧.stands ⟦<StoreEngine as Engine>⟧.stands shared.old shared.new }
 {
     shared.make_room()?;
     let x = horizon(shared, EngineName::Mem)?;
@@ -55,7 +66,8 @@ fn records(
     from: u32,
     to: u32,
 ) -> Result<CommitList, EndFault>
-    ensures { Drifts ⟦<MemEngine as Engine>⟧.stands ⟦<StoreEngine as Engine>⟧.stands shared.old shared.new }
+    ensures gives { IfOk result (λ commits. Gives ⟦<MemEngine as Engine>⟧.stands ⟦<StoreEngine as Engine>⟧.stands shared.old name (call.Records from to) (reply.Commits commits) shared.new) }
+    ensures drifts { Drifts ⟦<MemEngine as Engine>⟧.stands ⟦<StoreEngine as Engine>⟧.stands shared.old shared.new }
 {
     match shared.ask_for_nobody(name, EngineCall::Records { from, to }) {
         Ok(EngineReply::Commits(commits)) => Ok(commits),
@@ -78,11 +90,22 @@ fn sweep(shared: &mut Shared, name: EngineName, cut: Point) -> Option<EngineFaul
 }
 
 /// One number of the cut is past the other's, and neither is below it.
-fn is_past(cut: Point, durable: Point) -> bool {
+fn is_past(cut: Point, durable: Point) -> bool
+    ensures { result ≡ true → IsPast cut durable }
+{
     cut.a >= durable.a && cut.b >= durable.b && (cut.a > durable.a || cut.b > durable.b)
 }
 
-/// The commits of this engine past the durable cut and up to another.
+fn number_at(name: EngineName, point: Point) -> u32
+    ensures { result ≡ number_at name point }
+{
+    match name {
+        EngineName::Mem => point.a,
+        EngineName::Store => point.b,
+    }
+}
+
+/// The commits of this engine past the durable cut and up to another, each with both its numbers.
 fn joined(
     alloc: Global,
     shared: &mut Shared,
@@ -90,19 +113,19 @@ fn joined(
     durable: Point,
     cut: Point,
 ) -> Result<CommitList, EndFault>
-    ensures { Drifts ⟦<MemEngine as Engine>⟧.stands ⟦<StoreEngine as Engine>⟧.stands shared.old shared.new }
+    ensures joins { IfOk result (λ commits. Joins ⟦<MemEngine as Engine>⟧.stands ⟦<StoreEngine as Engine>⟧.stands shared.old name (number_at name durable) (number_at name cut) durable.a commits shared.new) }
+    ensures drifts { Drifts ⟦<MemEngine as Engine>⟧.stands ⟦<StoreEngine as Engine>⟧.stands shared.old shared.new }
 {
-    let (from, to) = match name {
-        EngineName::Mem => (durable.a, cut.a),
-        EngineName::Store => (durable.b, cut.b),
-    };
+    let from = number_at(name, durable);
+    let to = number_at(name, cut);
     let commits = records(shared, name, from, to)?;
     Ok(join(alloc, name, shared.points_from(durable), commits)?)
 }
 
 /// What a flush finds past this durable cut.
 fn batch(alloc: Global, shared: &mut Shared, durable: Point) -> Result<Found, EndFault>
-    ensures { Drifts ⟦<MemEngine as Engine>⟧.stands ⟦<StoreEngine as Engine>⟧.stands shared.old shared.new }
+    ensures found { IfOk result (λ found. FindsOn ⟦<MemEngine as Engine>⟧.stands ⟦<StoreEngine as Engine>⟧.stands shared.old durable found shared.new) }
+    ensures drifts { Drifts ⟦<MemEngine as Engine>⟧.stands ⟦<StoreEngine as Engine>⟧.stands shared.old shared.new }
 {
     let cut = match find_cut(shared)? {
         Some(cut) if is_past(cut, durable) => cut,
@@ -122,7 +145,8 @@ fn batch(alloc: Global, shared: &mut Shared, durable: Point) -> Result<Found, En
 impl Run {
     /// What a flush finds past this durable cut. Where it may not go past it, it finds that cut, and no commits.
     pub fn find_batch(&mut self, alloc: Global, durable: Point) -> Result<Found, EndFault>
-        ensures { KeepsStill ⟦<MemEngine as Engine>⟧.stands ⟦<StoreEngine as Engine>⟧.stands self.old self.new }
+        ensures found { IfOk result (λ found. FindsBatch ⟦<MemEngine as Engine>⟧.stands ⟦<StoreEngine as Engine>⟧.stands self.old durable found self.new) }
+        ensures kept { KeepsStill ⟦<MemEngine as Engine>⟧.stands ⟦<StoreEngine as Engine>⟧.stands self.old self.new }
     {
         batch(alloc, &mut self.shared, durable)
     }

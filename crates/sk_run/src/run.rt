@@ -99,7 +99,7 @@ impl Run {
     ) -> Result<Run, NoMemory>
         requires start { CanStart partitions size start }
         requires rows { AreOpeningRows catalog rows.now }
-        ensures kept { IfOk result (λ x. HasKept ⟦<MemEngine as Engine>⟧.stands ⟦<StoreEngine as Engine>⟧.stands rows.now [] x) }
+        ensures kept { IfOk result (λ x. HasKept ⟦<MemEngine as Engine>⟧.stands ⟦<StoreEngine as Engine>⟧.stands (record { rows = rows.now; first = start }) [] [] x) }
         ensures refused { IfOk result (λ x. AreRefused x.catalog 1 [] x.sessions) }
         ensures tables { IfOk result (λ x. x.catalog ≡ catalog) }
         ensures sessions { IfOk result (λ x. length x.sessions ≡ sessions) }

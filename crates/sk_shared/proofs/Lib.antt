@@ -10,3 +10,5 @@ pub mod Flushes
 pub mod Numbered
 -- what is left at the end
 pub mod Leaving
+-- a run may begin without rows
+pub mod Opening

@@ -1,6 +1,7 @@
 -- What a flush asks of what the sessions share.
 use Rattle.std.specs.Prelude.{◌≡◌, ℕ, ◌≤◌, List, Option, Some, None, Result, Ok, Err}
 use Rattle.sk_model.specs.declared.engine.EngineName.{EngineName}
+use Rattle.sk_model.specs.declared.engine.EngineName.TheVariants.{Mem}
 use Rattle.sk_model.specs.declared.point.Point.{Point}
 use Rattle.sk_model.specs.declared.call.EngineCall.{EngineCall}
 use Rattle.sk_model.specs.declared.call.EngineReply.{EngineReply}
@@ -13,6 +14,7 @@ use Rattle.sk_store.specs.declared.engine.StoreEngine.{StoreEngine}
 use Rattle.sk_chain.specs.Applying.{entered_reply}
 use Rattle.sk_session.specs.Common.{Common, IsCommon}
 use Rattle.sk_kept.specs.Flushing.{AnsweredFlush}
+use Rattle.sk_recorded.specs.Joined.{from_number}
 use Rattle.sk_shared.specs.declared.shared.Shared.{Shared}
 use Rattle.sk_shared.specs.Shared.{Stands}
 
@@ -45,3 +47,7 @@ module _ (mem : MemEngine → EngineTable → List Entry → Type 0) (store : St
   -- whatever it stood for, this is the oldest live point
   abbrev pub FindsOldest : Shared → Point → Shared → Type 0
   FindsOldest old q new = (c : Common) → Stands mem store old c → (q ≡ oldest_of c.regs) × Stands mem store new c
+
+  -- whatever it stood for, these are its points from the first one on that is not before this one in the memory engine
+  abbrev pub ShowsPoints : Shared → Point → List Point → Type 0
+  ShowsPoints x q points = (c : Common) → Stands mem store x c → points ≡ from_number Mem q.a c.regs.points

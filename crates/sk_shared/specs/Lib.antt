@@ -3,5 +3,4 @@ pub mod Kept
 pub mod Pair
 pub mod Shared
 pub mod Flushing
-pub mod Joined
 pub mod Finished

@@ -2,7 +2,7 @@
 
 ghost use Rattle.std.specs.Prelude.{◌≡◌, None};
 ghost use Rattle.sk_model.specs.Talks.{tx_of};
-ghost use Rattle.sk_shared.specs.Flushing.{Flushed, FindsCut, FindsOldest};
+ghost use Rattle.sk_shared.specs.Flushing.{Flushed, FindsCut, FindsOldest, ShowsPoints};
 
 use crate::shared::Shared;
 use sk_chain::Engine;
@@ -48,7 +48,9 @@ impl Shared {
     }
 
     /// The points of the run from the first one on that is not before this one in the memory engine.
-    pub fn points_from(&self, point: Point) -> &[Point] {
+    pub fn points_from(&self, point: Point) -> &[Point]
+        ensures { ShowsPoints ⟦<MemEngine as Engine>⟧.stands ⟦<StoreEngine as Engine>⟧.stands self.now point result.now }
+    {
         self.log.points_from(point.a)
     }
 }

@@ -2,6 +2,8 @@
 
 ghost use Rattle.std.specs.Prelude.{◌≡◌, ◌≤◌, IfOk, OnErr};
 ghost use Rattle.sk_commit.specs.declared.asking.RegistryCall.TheVariants as call;
+ghost use Rattle.sk_model.specs.declared.engine.EngineName.TheVariants.{Mem};
+ghost use Rattle.sk_recorded.specs.Joined.{from_number};
 ghost use Rattle.sk_weave.specs.Registry.{Regs, regs_at};
 ghost use Rattle.sk_weave.specs.RegistryLaws.{CanStart};
 ghost use Rattle.sk_shared.specs.Logged.{Logs, Told, CutsLog, LogsSame, ShowsOldest};
@@ -193,16 +195,18 @@ impl PointLog {
         self.points.oldest()
     }
 
-    /// The points from the first one on whose number of the memory engine is at least this.
-    pub fn points_from(&self, a: u32) -> &[Point] {
+    /// The points from the first one on whose number of the memory engine is at least this. It looks from the last one back.
+    pub fn points_from(&self, a: u32) -> &[Point]
+        ensures { result.now ≡ from_number Mem a self.now.all }
+    {
         let all = self.all.as_slice();
         let mut front = all;
         while let [before @ .., last] = front {
             if last.a < a {
-                break;
+                return &all[front.len()..];
             }
             front = before;
         }
-        all.get(front.len()..).unwrap_or(all)
+        all
     }
 }

@@ -1,16 +1,26 @@
+-- Each call goes on from the one before, and both engines told their commits up to the cut.
+use Rattle.std.proofs.Common.{Option, inr, subst}
+use Rattle.sk_model.specs.declared.point.Point.{Point}
+use Rattle.sk_run.specs.Flushing.{FindsPoint}
 use Rattle.sk_run.proofs.Stands.{mem_stands, store_stands}
 use Rattle.sk_run.proofs.Drifting.{drifts_on}
+use Rattle.sk_run.proofs.Finding.{flushes_on}
 use Rattle.sk_run.proofs.flushing.batch.Goals as goal
 
-pub returns-in_err-mem : goal.returns-in_err-mem
-returns-in_err-mem c = drifts_on mem_stands store_stands c.args.shared.now c.find_cut.new.shared c.joined.new.shared c.find_cut.ensures c.joined.ensures
+pub returns-in_err-mem-clause-drifts : goal.returns-in_err-mem-clause-drifts
+returns-in_err-mem-clause-drifts c = drifts_on mem_stands store_stands c.args.shared.now c.find_cut.new.shared c.joined.new.shared c.find_cut.ensures.drifts c.joined.ensures.drifts
 
-pub returns-in_err-store : goal.returns-in_err-store
-returns-in_err-store c =
-    drifts_on mem_stands store_stands c.args.shared.now c.find_cut.new.shared c.joined-2.new.shared c.find_cut.ensures
-    (drifts_on mem_stands store_stands c.find_cut.new.shared c.joined.new.shared c.joined-2.new.shared c.joined.ensures c.joined-2.ensures)
+pub returns-in_err-store-clause-drifts : goal.returns-in_err-store-clause-drifts
+returns-in_err-store-clause-drifts c =
+    drifts_on mem_stands store_stands c.args.shared.now c.find_cut.new.shared c.joined-2.new.shared c.find_cut.ensures.drifts
+    (drifts_on mem_stands store_stands c.find_cut.new.shared c.joined.new.shared c.joined-2.new.shared c.joined.ensures.drifts c.joined-2.ensures.drifts)
 
-pub returns : goal.returns
-returns c =
-    drifts_on mem_stands store_stands c.args.shared.now c.find_cut.new.shared c.joined-2.new.shared c.find_cut.ensures
-    (drifts_on mem_stands store_stands c.find_cut.new.shared c.joined.new.shared c.joined-2.new.shared c.joined.ensures c.joined-2.ensures)
+pub returns-clause-drifts : goal.returns-clause-drifts
+returns-clause-drifts c =
+    drifts_on mem_stands store_stands c.args.shared.now c.find_cut.new.shared c.joined-2.new.shared c.find_cut.ensures.drifts
+    (drifts_on mem_stands store_stands c.find_cut.new.shared c.joined.new.shared c.joined-2.new.shared c.joined.ensures.drifts c.joined-2.ensures.drifts)
+
+pub returns-clause-found : goal.returns-clause-found
+returns-clause-found c = inr
+    (flushes_on mem_stands store_stands c.args.shared.now c.find_cut.new.shared c.joined.new.shared c.joined-2.new.shared c.args.durable c.in-Some.cut c.in_ok-mem.mem c.in_ok-store.store (c.is_past.ensures c.if-is_past.true) c.find_cut.ensures.drifts
+    (subst (λ (o : Option Point). FindsPoint mem_stands store_stands c.args.shared.now o c.find_cut.new.shared) c.in-Some.is c.in_ok-cut.ensures.point) c.in_ok-mem.ensures.joins c.in_ok-store.ensures.joins)

@@ -1,6 +1,6 @@
 -- The points that are left have the one that is looked for.
 use Rattle.std.proofs.Common.{◌≡◌, length}
-use Rattle.sk_shared.specs.Joined.{from_number}
+use Rattle.sk_recorded.specs.Joined.{from_number}
 use Rattle.sk_shared.proofs.joining.from_number.Given as goal
 
 abbrev pub invariant-loop-rest : goal.invariant-loop-rest

@@ -1,6 +1,6 @@
 -- The commits so far, and those that are left to join, are all.
 use Rattle.std.proofs.Common.{◌≡◌, ◌++◌}
-use Rattle.sk_shared.specs.Joined.{from_number, joined}
+use Rattle.sk_recorded.specs.Joined.{from_number, joined}
 use Rattle.sk_shared.proofs.joining.join.Given as goal
 
 abbrev pub invariant-loop-commit : goal.invariant-loop-commit

@@ -1,5 +1,5 @@
 use Rattle.std.proofs.Common.{◌≤◌, ap, ◌∙◌, arith}
-use Rattle.sk_shared.specs.Joined.{from_number}
+use Rattle.sk_recorded.specs.Joined.{from_number}
 use Rattle.sk_shared.proofs.Numbered.{from_later}
 use Rattle.sk_shared.proofs.joining.walk_to.Goals as goal
 

@@ -2,13 +2,14 @@
 use Rattle.std.proofs.Common.{List, sym, ap, subst, ◌∙◌, refl, map}
 use Rattle.sk_model.specs.declared.commit.Commit.{Commit}
 use Rattle.sk_model.specs.declared.record.Record.{Record}
-use Rattle.sk_model.specs.Database.{Tables}
 use Rattle.sk_model.specs.Places.{place}
 use Rattle.sk_model.specs.Records.{InTurn}
 use Rattle.sk_session.specs.Starting.{records_now}
 use Rattle.sk_linked.specs.Kept.{Play}
 use Rattle.sk_run.specs.State.{RunState}
+use Rattle.sk_recorded.specs.Flushes.{Flush}
 use Rattle.sk_run.specs.Told.{RunLine}
+use Rattle.sk_run.specs.Kept.{Beginning}
 use Rattle.sk_run.specs.Ended.{HandsOut}
 use Rattle.sk_run.specs.declared.ended.Ended.{Ended}
 use Rattle.sk_run.proofs.Stands.{mem_stands, store_stands}
@@ -41,7 +42,7 @@ returns c =
       points = c.into_parts-mem_journal.result.points;
     } in
     subst (λ (x : RunState). HandsOut mem_stands store_stands x out) c.self.view_is
-    (λ (rows : Tables) (lines steps : List RunLine) are k. ended mem_stands store_stands rows lines steps _ c.into_parts-mem_journal.result out (map records_now c.self.inside.sessions.items) are k c.into_parts-mem_journal.ensures
+    (λ (b : Beginning) (lines steps : List RunLine) (fs : List Flush) are k. ended mem_stands store_stands b lines steps fs _ c.into_parts-mem_journal.result out (map records_now c.self.inside.sessions.items) are k c.into_parts-mem_journal.ensures
     (λ (p : Play) left. c.in_ok-order.ensures p (same_left p _ _ _ _ _ _ c.as_slice.ensures c.as_slice-2.ensures left)) refl c.in_ok-records.ensures
     (c.in_ok-places.ensures ∙ ap (λ (cs : List Commit). map (λ (r : Record). place cs r.mem r.store) c.as_slice-4.result.now) c.as_slice-3.ensures ∙ ap (map (λ (r : Record). place c.in_ok-order.order r.mem r.store)) c.as_slice-4.ensures)
     refl refl refl)

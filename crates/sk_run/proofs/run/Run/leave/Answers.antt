@@ -13,9 +13,10 @@ pub invariant_of-run : goal.invariant_of-run
 invariant_of-run c = (
   c.self.invariant.0,
   c.self.invariant.1 ++ line_by c.args.session (None, c.in_ok-reply-in-Some.reply) ∷ [],
+  c.self.invariant.2,
   leave_keeps mem_stands store_stands _ _ c.args.session (c.args.session - 1) c.in-Some.speaker.now c.leave_with.new.session c.in_ok-reply-in-Some.reply (omega (arith, c.requires.0))
       (is_inside c.args.session (length c.self.inside.sessions.items) c.requires.0 (subst (λ (x : RunState). c.args.session ≤ length x.sessions) (sym c.self.view_is) c.requires.1))
-      c.in-Some.ensures.value refl refl c.in_ok-reply-in-Some.ensures.calls c.in_ok-reply-in-Some.ensures.prints c.self.invariant.0 c.self.invariant.1 c.self.invariant.2,
+      c.in-Some.ensures.value refl refl c.in_ok-reply-in-Some.ensures.calls c.in_ok-reply-in-Some.ensures.prints c.self.invariant.0 c.self.invariant.1 c.self.invariant.2 c.self.invariant.3,
 )
 
 pub returns-clause-kept : goal.returns-clause-kept

@@ -14,7 +14,7 @@ returns-clause-kept c =
     kept_first _ _ c.args.rows.now c.args.partitions c.args.size c.args.sessions c.args.start _ c.ranges.sessions.fits (subst IsCatalog c.catalog.view_is c.catalog.invariant) c.requires.rows c.in_ok-shared.ensures c.in_ok-sessions.ensures
 
 pub invariant_of-result : goal.invariant_of-result
-invariant_of-result c = (c.args.rows.now, [], returns-clause-kept c)
+invariant_of-result c = (record { rows = c.args.rows.now; first = c.args.start }, [], [], returns-clause-kept c)
 
 pub returns-clause-sessions : goal.returns-clause-sessions
 returns-clause-sessions c = ap length c.in_ok-sessions.ensures ∙ length-map-range_with_len fresh 1 c.args.sessions
