@@ -7,7 +7,7 @@ ghost use Rattle.sk_model.specs.declared.receipt.FlushFault.TheVariants as fault
 ghost use Rattle.sk_log.specs.Lawful.{IsGroup};
 ghost use Rattle.sk_cut.specs.Acked.{Acked};
 ghost use Rattle.sk_cut.specs.Batches.{CanBeCounted, CanBeSpelled, as_cut, same_cut, stored_text, body_text, full_length};
-ghost use Rattle.sk_cut.specs.Flush.{AllAt, HasGrown};
+ghost use Rattle.sk_cut.specs.Flush.{AllAt, AtMostGrows, HasGrown};
 ghost use Rattle.sk_cut.specs.Receipts.{covers, receipt_at};
 ghost use Rattle.sk_durable.specs.Growing.{AllOver, OnlyGrows};
 ghost use Rattle.sk_durable.specs.Kept.{AreNewest, goes_on};
@@ -170,6 +170,8 @@ impl<D: Device, F: Teller + Drop> Durable<D, F> {
         requires open { self.old.broken ≡ false }
         // At each moment of the call, whatever it answers, an image opens as one from before did, with perhaps more commits.
         ensures any_moment { IsTrue (D.disk).tells → Steps D.disk OnlyGrows self.old.disk self.new.disk }
+        // Where its cut is a new one, an image opens at each moment as one from before, or as that with the batch's commits behind it.
+        ensures at_most { IsTrue (D.disk).tells → same_cut batch.now.cut self.old.cut ≡ false → Steps D.disk (AtMostGrows self.old.ends batch.now) self.old.disk self.new.disk }
         // After Ok each image opens as one from before with the batch's commits, and so at its cut.
         ensures written { IsTrue (D.disk).tells → same_cut batch.now.cut self.old.cut ≡ false → OnOk result (HasGrown D.disk self.old.ends batch.now self.old.disk self.new.disk) }
         ensures durable { OnOk result (IsTrue (D.disk).tells → AllAt D.disk (as_cut batch.now.cut) self.new.ends self.new.disk) }

@@ -11,8 +11,11 @@ pub mod Turning
 pub mod Entries
 -- rows that are read fit their tables, and still do behind what is written
 pub mod RowsFit
+pub mod LogsRead
 pub mod LogsFit
 pub mod StateFit
+-- each log holds writes to its own engine's tables alone
+pub mod LogsOwned
 -- making a new store, and what is opened
 pub mod Sound
 pub mod Roots

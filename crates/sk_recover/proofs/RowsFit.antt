@@ -40,6 +40,11 @@ pub chosen : {A : Type 0} (b : Bool) (x y : A) (d : Fault) → cond b (Ok x) (Er
 chosen true x y d e = cc
 chosen false x y d e = absurd cc
 
+-- and so the test held
+pub chosen_by : {A : Type 0} (b : Bool) (x y : A) (d : Fault) → cond b (Ok x) (Err d) ≡ Ok y → b ≡ true
+chosen_by true x y d e = refl
+chosen_by false x y d e = absurd cc
+
 -- what holds of each item that is read holds of all
 pub items_each : {A S : Type 0} (read : S → Rest → Result (A × Rest) Fault) (keep : S → A → S) (P : A → Type 0)
     → ((s : S) (rest : Rest) (x : A × Rest) → read s rest ≡ Ok x → P x.0)

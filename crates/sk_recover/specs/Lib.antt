@@ -3,3 +3,4 @@ pub mod Maps
 pub mod Views
 pub mod Opened
 pub mod Making
+pub mod Owning

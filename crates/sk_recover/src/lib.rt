@@ -6,12 +6,14 @@
 
 mod group;
 mod image;
+mod laws;
 mod making;
 mod opening;
 mod rows;
 mod turn;
 mod whole;
 
+pub use laws::logs_hold_their_own;
 pub use opening::{OpenFault, Opened, open};
 
 #[cfg(test)]
