@@ -1,8 +1,9 @@
--- Where the rules call the tokens of a session's line at fault, its words are not read there.
-use Rattle.std.proofs.Common.{◌≡◌, ℕ, ◌+◌, Bool, true, false, cond, List, [], ◌∷◌, ◌++◌, append-nil, append_assoc, Some, refl, sym, ap, subst, ◌∙◌, ◌⊎◌, inl, inr}
+-- Where the rules call the tokens of a line that says something at fault, its words are not read there.
+use Rattle.std.proofs.Common.{◌≡◌, ℕ, ◌+◌, Bool, true, false, cond, List, [], ◌∷◌, ◌++◌, append-nil, append_assoc, Some, None, refl, sym, ap, subst, ◌∙◌, ◌⊎◌, inl, inr}
 use Rattle.std.specs.Prelude.{Result, Ok, Err}
 use Rattle.std.proofs.lemmas.List.{map-append}
 use Rattle.sk_lex.specs.declared.token.Token.{Token}
+use Rattle.sk_lex.specs.declared.token.Word.{Word}
 use Rattle.sk_lex.specs.declared.token.Word.TheVariants as word
 use Rattle.sk_rows.specs.declared.statement.Statement.{Statement}
 use Rattle.sk_parse.specs.declared.fault.ParseFault.{ParseFault}
@@ -13,10 +14,10 @@ use Rattle.sk_parse.specs.Saying.{Says}
 use Rattle.sk_parse.specs.Statements.{answer as answered_by, place_of, statement, whole}
 use Rattle.sk_parse.proofs.Answered.{answered}
 use Rattle.sk_script.specs.declared.script.Line.TheVariants as line
-use Rattle.sk_script.specs.Body.{alone, behind_session, body, by_session, closed, is_mark, is_step, misfit, phrase, rest_of, said, says, session_of}
+use Rattle.sk_script.specs.Body.{alone, behind_session, body, by_command, by_session, closed, command_of, is_mark, is_step, misfit, phrase, rest_of, said, says, session_of}
 use Rattle.sk_script.specs.Faults.{BodyFault, IsNoMark, SaidFault}
 use Rattle.sk_script.proofs.BodyFaults.{FailsAt}
-use Rattle.sk_script.proofs.BodyRules.{mark_word, phrase_open, phrase_read, said_closed, said_plain}
+use Rattle.sk_script.proofs.BodyRules.{mark_word, phrase_open, phrase_read, said_closed, said_plain, session_word}
 use Rattle.sk_script.proofs.NoSemicolon.{goes}
 
 -- ---- statements
@@ -93,7 +94,11 @@ phrase_fails n end _ _ (SaidFault.step t v ts at) = ap (λ w. cond (is_step w) (
 phrase_fails n end _ _ (SaidFault.statement ts place none f) =
     ap (λ b. cond b (alone (Ok (line.Step n)) (rest_of ts)) (says n (statement ts end))) none ∙ ap (says n) (first_is ts end place f)
 
--- ---- lines of a session
+-- ---- lines
+
+-- no session's number is FLUSH or STOP
+no_command : (w : Word) (n : ℕ) → session_of w ≡ Some n → command_of w ≡ None
+no_command w n is = ap command_of (session_word w n is).0
 
 colon_missing : (n : ℕ) (ts : List Token) (end : ℕ) → IsNoMark 58 ts → FailsAt (behind_session n ts end) (place_of end ts)
 colon_missing n [] end none = refl
@@ -106,15 +111,18 @@ colon_missing n (c ∷ ts) end none = by (is_mark 58 c.word) refl
 behind_colon : (t c : Token) (ts : List Token) (n end place : ℕ) → session_of t.word ≡ Some n → c.word ≡ word.Mark 58 0 → FailsAt (said n ts end) place → FailsAt (body (t ∷ c ∷ ts) end) place
 unfolding body
 behind_colon t c ts n end place session colon is =
-    ap (λ o. by_session o t (c ∷ ts) end) session
+    ap (λ o. by_command o t (c ∷ ts) end) (no_command t.word n session)
+    ∙ ap (λ o. by_session o t (c ∷ ts) end) session
     ∙ ap (λ w. cond (is_mark 58 w) (said n ts end) (misfit (c ∷ ts) end)) colon
     ∙ is
 
 pub body_fails : (end : ℕ) (ts : List Token) (place : ℕ) → BodyFault end ts place → FailsAt (body ts end) place
 unfolding body closed
-body_fails end _ _ (BodyFault.session [] none) = refl
-body_fails end _ _ (BodyFault.session (t ∷ ts) none) = ap (λ o. by_session o t ts end) none
-body_fails end _ _ (BodyFault.colon t ts n session none) = ap (λ o. by_session o t ts end) session ∙ colon_missing n ts end none
+body_fails end _ _ (BodyFault.first [] command session) = refl
+body_fails end _ _ (BodyFault.first (t ∷ ts) command session) = ap (λ o. by_command o t ts end) command ∙ ap (λ o. by_session o t ts end) session
+body_fails end _ _ (BodyFault.command t v ts what is) = ap (λ o. by_command o t (v ∷ ts) end) is
+body_fails end _ _ (BodyFault.colon t ts n session none) =
+    ap (λ o. by_command o t ts end) (no_command t.word n session) ∙ ap (λ o. by_session o t ts end) session ∙ colon_missing n ts end none
 body_fails end _ _ (BodyFault.plain t c ts n place session colon all f) = behind_colon t c ts n end place session colon (said_plain n ts end all ∙ phrase_fails n end ts place f)
 body_fails end _ _ (BodyFault.closed t c us m ts n place session colon all mark f) =
     behind_colon t c (us ++ m ∷ ts) n end place session colon (said_closed n us m ts end all (ap goes mark) ∙ ap (λ r. alone r ts) (phrase_fails n m.from us place f))

@@ -1,4 +1,4 @@
--- Where the words of a session's line are not read, its tokens are at fault there.
+-- Where the words of a line that says something are not read, its tokens are at fault there.
 use Rattle.std.proofs.Common.{◌≡◌, ℕ, ◌+◌, Bool, true, false, cond, List, [], ◌∷◌, ◌++◌, Option, Some, None, refl, sym, ap, subst, ◌∙◌, ◌⊎◌, inl, inr}
 use Rattle.std.specs.Prelude.{Result, Ok, Err}
 use Rattle.std.specs.List.{list_all}
@@ -13,7 +13,7 @@ use Rattle.sk_parse.specs.Statements.{statement}
 use Rattle.sk_parse.proofs.Answered.{answered}
 use Rattle.sk_script.specs.declared.script.Line.{Line}
 use Rattle.sk_script.specs.declared.script.Line.TheVariants as line
-use Rattle.sk_script.specs.Body.{alone, begins_step, behind_session, body, by_session, closed, goes_on, is_mark, misfit, phrase, rest_of, said, says, session_of}
+use Rattle.sk_script.specs.Body.{alone, begins_step, behind_session, body, by_command, by_session, closed, command_of, goes_on, is_mark, misfit, phrase, rest_of, said, says, session_of}
 use Rattle.sk_script.specs.Faults.{BodyFault, SaidFault}
 use Rattle.sk_script.proofs.BodyRules.{IsClosed, first_mark, is_semicolon, mark_word, phrase_words, said_closed, said_plain, step_first}
 
@@ -79,11 +79,22 @@ behind_fault t (c ∷ ts) n end place session is = by (is_mark 58 c.word) refl i
     by true at e = said_fault t c ts n end place session (mark_word 58 c.word at) e
     by false at e = subst (BodyFault end (t ∷ c ∷ ts)) (ap (place_or 0) e) (BodyFault.colon t (c ∷ ts) n session (no_colon c.word at))
 
-pub body_fault : (ts : List Token) (end place : ℕ) → FailsAt (body ts end) place → BodyFault end ts place
-unfolding body
-body_fault [] end place is = subst (BodyFault end []) (ap (place_or 0) is) (BodyFault.session [] tt)
-body_fault (t ∷ ts) end place is = by (session_of t.word) refl is
+session_fault : (t : Token) (ts : List Token) (end place : ℕ) → command_of t.word ≡ None → FailsAt (by_session (session_of t.word) t ts end) place → BodyFault end (t ∷ ts) place
+session_fault t ts end place none is = by (session_of t.word) refl is
   where
     by : (o : Option ℕ) → session_of t.word ≡ o → FailsAt (by_session o t ts end) place → BodyFault end (t ∷ ts) place
     by (Some n) at e = behind_fault t ts n end place at e
-    by None at e = subst (BodyFault end (t ∷ ts)) (ap (place_or 0) e) (BodyFault.session (t ∷ ts) at)
+    by None at e = subst (BodyFault end (t ∷ ts)) (ap (place_or 0) e) (BodyFault.first (t ∷ ts) none at)
+
+command_fault : (t : Token) (ts : List Token) (end place : ℕ) (what : Line) → command_of t.word ≡ Some what → FailsAt (alone (Ok what) ts) place → BodyFault end (t ∷ ts) place
+command_fault t [] end place what at is = absurd cc
+command_fault t (v ∷ ts) end place what at is = subst (BodyFault end (t ∷ v ∷ ts)) (ap (place_or 0) is) (BodyFault.command t v ts what at)
+
+pub body_fault : (ts : List Token) (end place : ℕ) → FailsAt (body ts end) place → BodyFault end ts place
+unfolding body
+body_fault [] end place is = subst (BodyFault end []) (ap (place_or 0) is) (BodyFault.first [] tt tt)
+body_fault (t ∷ ts) end place is = by (command_of t.word) refl is
+  where
+    by : (o : Option Line) → command_of t.word ≡ o → FailsAt (by_command o t ts end) place → BodyFault end (t ∷ ts) place
+    by (Some what) at e = command_fault t ts end place what at e
+    by None at e = session_fault t ts end place at e

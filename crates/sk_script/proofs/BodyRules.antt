@@ -1,4 +1,4 @@
--- The words of a session's line: they are read as it exactly where the rules make it of them.
+-- The words of a line that says something: they are read as it exactly where the rules make it of them.
 use Rattle.std.proofs.Common.{◌≡◌, ◌==◌, ℕ, Bool, true, false, cond, not, ◌&&◌, List, [], ◌∷◌, ◌++◌, length, take, drop, Option, Some, None, refl, sym, ap, subst, ◌∙◌, arith, ◌⊎◌, inl, inr}
 use Rattle.std.specs.Prelude.{nat_le, Result, Ok, Err}
 use Rattle.std.specs.List.{list_all, prefix_len}
@@ -20,7 +20,7 @@ use Rattle.sk_parse.proofs.Answered.{answered}
 use Rattle.sk_parse.proofs.CompleteStatement.{whole_read}
 use Rattle.sk_script.specs.declared.script.Line.{Line}
 use Rattle.sk_script.specs.declared.script.Line.TheVariants as line
-use Rattle.sk_script.specs.Body.{alone, begins_step, behind_session, body, by_session, closed, goes_on, is_mark, is_step, misfit, phrase, rest_of, said, said_by, says, session_of}
+use Rattle.sk_script.specs.Body.{alone, begins_step, behind_session, body, by_command, by_session, closed, command_of, goes_on, is_mark, is_step, misfit, phrase, rest_of, said, said_by, says, session_of}
 use Rattle.sk_script.specs.Rules.{IsBody, IsSaid, IsSession}
 use Rattle.sk_script.proofs.NoSemicolon.{goes, said_free}
 
@@ -93,7 +93,7 @@ is_semicolon w = by (is_mark 59 w)
     by true is = refl
     by false is = absurd cc
 
-session_word : (w : Word) (n : ℕ) → session_of w ≡ Some n → (w ≡ word.Number n) × IsSession n
+pub session_word : (w : Word) (n : ℕ) → session_of w ≡ Some n → (w ≡ word.Number n) × IsSession n
 session_word (word.Number m) n is = by (nat_le 1 m && nat_le m 64) refl is
   where
     by : (b : Bool) → (nat_le 1 m && nat_le m 64) ≡ b → cond b (Some m) None ≡ Some n → (word.Number m ≡ word.Number n) × IsSession n
@@ -167,16 +167,31 @@ behind_words n session (t ∷ ts) end what is = by (is_mark 58 t.word) refl is
     by true at e = subst (λ w. IsBody (word.Number n ∷ w ∷ words ts) what) (sym (mark_word 58 t.word at)) (said_words n session ts end what e)
     by false at e = absurd cc
 
-pub body_words : (ts : List Token) (end : ℕ) (what : Line) → body ts end ≡ Ok what → IsBody (words ts) what
-unfolding body
-body_words [] end what is = absurd cc
-body_words (t ∷ ts) end what is = by (session_of t.word) refl is
+session_words : (t : Token) (ts : List Token) (end : ℕ) (what : Line) → by_session (session_of t.word) t ts end ≡ Ok what → IsBody (words (t ∷ ts)) what
+session_words t ts end what is = by (session_of t.word) refl is
   where
     by : (found : Option ℕ) → session_of t.word ≡ found → by_session found t ts end ≡ Ok what → IsBody (words (t ∷ ts)) what
     by (Some n) at e =
         let session = session_word t.word n at in
         subst (λ w. IsBody (w ∷ words ts) what) (sym session.0) (behind_words n session.1 ts end what e)
     by None at e = absurd cc
+
+command_words : (w : Word) (what : Line) → command_of w ≡ Some what → IsBody (w ∷ []) what
+command_words (word.Key key.Flush) what is = subst (IsBody (word.Key key.Flush ∷ [])) (let same : line.Flush ≡ what = cc in same) IsBody.flush
+command_words (word.Key key.Stop) what is = subst (IsBody (word.Key key.Stop ∷ [])) (let same : line.Stop ≡ what = cc in same) IsBody.stop
+command_words _ what is = absurd cc
+
+pub body_words : (ts : List Token) (end : ℕ) (what : Line) → body ts end ≡ Ok what → IsBody (words ts) what
+unfolding body
+body_words [] end what is = absurd cc
+body_words (t ∷ ts) end what is = by (command_of t.word) refl is
+  where
+    by : (found : Option Line) → command_of t.word ≡ found → by_command found t ts end ≡ Ok what → IsBody (words (t ∷ ts)) what
+    by (Some command) at e =
+        let parts = alone_ok (Ok command) ts what e in
+        let same : command ≡ what = let o = parts.1 in cc in
+        subst (λ rest. IsBody (t.word ∷ words rest) what) (sym parts.0) (subst (IsBody (t.word ∷ [])) same (command_words t.word command at))
+    by None at e = session_words t ts end what e
 
 -- ---- what stands in the words is read
 
@@ -248,7 +263,8 @@ session_read : (n : ℕ) → IsSession n → (t c : Token) (ts : List Token) (en
     → body (t ∷ c ∷ ts) end ≡ Ok what
 unfolding body
 session_read n session t c ts end what number colon is =
-    ap (λ w. by_session (session_of w) t (c ∷ ts) end) number
+    ap (λ w. by_command (command_of w) t (c ∷ ts) end) number
+    ∙ ap (λ w. by_session (session_of w) t (c ∷ ts) end) number
     ∙ ap (λ o. by_session o t (c ∷ ts) end) (session_is n session)
     ∙ ap (λ w. cond (is_mark 58 w) (said n ts end) (misfit (c ∷ ts) end)) colon
     ∙ is
@@ -264,11 +280,22 @@ closed_read n us mark end ws what is says at =
     said_closed n us mark [] end (phrase_open n us ws what is says) (ap goes at)
     ∙ ap (λ r. alone r []) (phrase_read n us mark.from ws what is says)
 
+command_read : (t : Token) (end : ℕ) (what : Line) → command_of t.word ≡ Some what → body (t ∷ []) end ≡ Ok what
+unfolding body
+command_read t end what is = ap (λ o. by_command o t [] end) is
+
+command_alone : (w : Word) (what : Line) → command_of w ≡ Some what → (ts : List Token) (end : ℕ) → words ts ≡ w ∷ [] → body ts end ≡ Ok what
+command_alone w what command ts end is =
+    let one = one_word w ts is in
+    ap (λ l. body l end) one.1 ∙ command_read one.0 end what (ap command_of one.2 ∙ command)
+
 pub body_read : (ws : List Word) (what : Line) → IsBody ws what → (ts : List Token) (end : ℕ) → words ts ≡ ws → body ts end ≡ Ok what
 body_read _ _ (IsBody.plain n us what session says) ts end is =
     let two = two_words (word.Number n) (word.Mark 58 0) us ts is in
     ap (λ l. body l end) two.3
     ∙ session_read n session two.0 two.1 two.2 end what two.4 two.5 (said_plain n two.2 end (phrase_open n two.2 us what two.6 says) ∙ phrase_read n two.2 end us what two.6 says)
+body_read _ _ IsBody.flush ts end is = command_alone (word.Key key.Flush) line.Flush refl ts end is
+body_read _ _ IsBody.stop ts end is = command_alone (word.Key key.Stop) line.Stop refl ts end is
 body_read _ _ (IsBody.closed n us what session says) ts end is =
     let two = two_words (word.Number n) (word.Mark 58 0) (us ++ word.Mark 59 0 ∷ []) ts is in
     let cut = split_words us (word.Mark 59 0 ∷ []) two.2 two.6 in

@@ -27,3 +27,8 @@ pub mod ScriptFaults
 pub mod TableFails
 pub mod BodyFails
 pub mod ScriptFails
+-- scripts that are generated
+pub mod Making
+pub mod Playable
+-- the numbers of the command line
+pub mod Amounts

@@ -186,7 +186,7 @@ set_key : (w : Word) → kind_by w ≡ kind.Option → w ≡ word.Key key.Set
 set_key (word.Key key.Set) is = refl
 set_key _ is = absurd cc
 
--- no line of a session stands before these tokens, of which this is the first word
+-- no line that says something stands before these tokens, of which this is the first word
 pub record Begins (lines : List ScriptLine) (ts : List Token) (w : Word) : Type 0 where
   pub first : lines ≡ []
   pub begins : words ts ≡ w ∷ next (words ts)
@@ -275,10 +275,23 @@ kind_is [] (t ∷ ts) w ws none is = let head : t.word ≡ w = cc in ap kind_by 
 kind_is [] [] w ws none is = absurd cc
 kind_is (l ∷ ls) ts w ws none is = absurd cc
 
-pub is_body : (lines : List ScriptLine) (ts : List Token) (n : ℕ) (ws : List Word) → words ts ≡ word.Number n ∷ ws → kind_of lines ts ≡ kind.Body
-is_body [] (t ∷ ts) n ws is = let head : t.word ≡ word.Number n = cc in ap kind_by head
-is_body [] [] n ws is = refl
-is_body (l ∷ ls) ts n ws is = refl
+-- the first of these words makes no table and sets no option
+pub record Opens (ws : List Word) : Type 0 where
+  pub first : Word
+  pub rest : List Word
+  pub cut : ws ≡ first ∷ rest
+  pub is : kind_by first ≡ kind.Body
+
+pub body_opens : (ws : List Word) (what : Line) → IsBody ws what → Opens ws
+body_opens _ _ (IsBody.plain n us what session says) = record { first = word.Number n; rest = _; cut = refl; is = refl }
+body_opens _ _ (IsBody.closed n us what session says) = record { first = word.Number n; rest = _; cut = refl; is = refl }
+body_opens _ _ IsBody.flush = record { first = word.Key key.Flush; rest = []; cut = refl; is = refl }
+body_opens _ _ IsBody.stop = record { first = word.Key key.Stop; rest = []; cut = refl; is = refl }
+
+pub is_body : (lines : List ScriptLine) (ts : List Token) (ws : List Word) → words ts ≡ ws → Opens ws → kind_of lines ts ≡ kind.Body
+is_body [] (t ∷ ts) ws is opens = let head : t.word ≡ opens.first = (let all = is ∙ opens.cut in cc) in ap kind_by head ∙ opens.is
+is_body [] [] ws is opens = refl
+is_body (l ∷ ls) ts ws is opens = refl
 
 pub table_line_read : (script : Script) (ts : List Token) (end : ℕ) (ws : List Word) (t : Table) → words ts ≡ ws → IsTable ws t → add_fault (map (λ l. l.table) script.tables) t ≡ None
     → table_line script.tables ts end ≡ Ok t
@@ -307,15 +320,10 @@ line_read script n line _ (Adds.sets ws name k first has set may) =
     with_words script n line _ _ has_words
     ∙ ap (λ k. by_kind k script n front) (kind_is script.lines has_words.found (word.Key key.Set) _ first has_words.words)
     ∙ ap (λ r. and_then r (λ o. and_then (behind front) (λ _. Ok (option_added script o)))) (set_line_read script.options n has_words.found (length line) _ name k has_words.words refl may)
-line_read script n line _ (Adds.speaks ws what has made) = by ws what has made
-  where
-    on : (m : ℕ) (us : List Word) (what : Line) → HasWords line (word.Number m ∷ us) → IsBody (word.Number m ∷ us) what → with_line false script n line ≡ Ok (line_added script n what)
-    on m us what has made =
-        let front = plain has.found line in
-        with_words script n line (word.Number m) us has
-        ∙ ap (λ k. by_kind k script n front) (is_body script.lines has.found m us has.words)
-        ∙ ap (λ r. and_then r (λ what. and_then (behind front) (λ _. Ok (line_added script n what)))) (body_read (word.Number m ∷ us) what made has.found (length line) has.words)
-
-    by : (ws : List Word) (what : Line) → HasWords line ws → IsBody ws what → with_line false script n line ≡ Ok (line_added script n what)
-    by _ _ has (IsBody.plain m us what session says) = on m _ what has (IsBody.plain m us what session says)
-    by _ _ has (IsBody.closed m us what session says) = on m _ what has (IsBody.closed m us what session says)
+line_read script n line _ (Adds.speaks ws what has made) =
+    let opens = body_opens ws what made in
+    let has_words : HasWords line (opens.first ∷ opens.rest) = subst (HasWords line) opens.cut has in
+    let front = plain has_words.found line in
+    with_words script n line opens.first opens.rest has_words
+    ∙ ap (λ k. by_kind k script n front) (is_body script.lines has_words.found _ has_words.words (record { first = opens.first; rest = opens.rest; cut = refl; is = opens.is }))
+    ∙ ap (λ r. and_then r (λ what. and_then (behind front) (λ _. Ok (line_added script n what)))) (body_read ws what made has_words.found (length line) (has_words.words ∙ sym opens.cut))

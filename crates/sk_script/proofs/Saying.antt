@@ -1,6 +1,6 @@
 -- Of a script that was read: the session of each line, and the texts that it writes.
 use Rattle.std.proofs.Common.{◌≡◌, ℕ, ◌+◌, Bool, true, false, ◌&&◌, List, [], ◌∷◌, length, Some, refl, sym, ap, subst, ◌∙◌}
-use Rattle.std.specs.Prelude.{IfOk, nat_le, nat_lt, pos, Result, Ok, Err}
+use Rattle.std.specs.Prelude.{IfOk, IfSome, nat_le, nat_lt, pos, Result, Ok, Err}
 use Rattle.std.specs.List.{list_all, AllByRecursion}
 use Rattle.sk_lex.specs.declared.token.Keyword.TheVariants as key
 use Rattle.sk_lex.specs.declared.token.Word.{Word}
@@ -92,16 +92,18 @@ statement_short ws (st.Delete t c) is = refl
 
 -- ---- lines
 
-said_right : (n : ℕ) (us : List Word) (what : Line) → IsSession n → IsSaid n us what → IsSession (session_in what) × (says_short what ≡ true)
+said_right : (n : ℕ) (us : List Word) (what : Line) → IsSession n → IsSaid n us what → IfSome (session_in what) IsSession × (says_short what ≡ true)
 said_right n _ _ session IsSaid.step = (session, refl)
 said_right n _ _ session (IsSaid.statement us s says) = (session, statement_short us s says)
 
-body_right : (ws : List Word) (what : Line) → IsBody ws what → IsSession (session_in what) × (says_short what ≡ true)
+body_right : (ws : List Word) (what : Line) → IsBody ws what → IfSome (session_in what) IsSession × (says_short what ≡ true)
 body_right _ _ (IsBody.plain n us what session said) = said_right n us what session said
 body_right _ _ (IsBody.closed n us what session said) = said_right n us what session said
+body_right _ _ IsBody.flush = (tt, refl)
+body_right _ _ IsBody.stop = (tt, refl)
 
 abbrev HaveSessions : List ScriptLine → Type 0
-HaveSessions = AllByRecursion (λ l. IsSession (session_in l.what))
+HaveSessions = AllByRecursion (λ l. IfSome (session_in l.what) IsSession)
 
 abbrev AreShort : List ScriptLine → Type 0
 AreShort = AllByRecursion (λ l. says_short l.what ≡ true)
@@ -119,7 +121,7 @@ bodies_right _ _ _ (AreBodies.body n line lines said ws what has made more) =
 script_right : (bytes : Text) (script : Script) → script_of bytes ≡ Ok script → HaveSessions script.lines × AreShort script.lines
 script_right bytes script is = let made = (script_stands bytes script is).made in bodies_right _ made.bodies script.lines made.said
 
-pub given_sessions : (bytes : Text) (result : Result Script ScriptFault) → Gives wants result (script_of bytes) → IfOk result (λ script. AllByRecursion (λ l. IsSession (session_in l.what)) script.lines)
+pub given_sessions : (bytes : Text) (result : Result Script ScriptFault) → Gives wants result (script_of bytes) → IfOk result (λ script. AllByRecursion (λ l. IfSome (session_in l.what) IsSession) script.lines)
 given_sessions bytes (Ok script) is = (script_right bytes script is).0
 given_sessions bytes (Err (fault.At line place)) is = tt
 given_sessions bytes (Err fault.NoMemory) is = tt

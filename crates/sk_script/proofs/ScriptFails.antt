@@ -5,7 +5,6 @@ use Rattle.std.proofs.Math.Bool.{or-true}
 use Rattle.std.proofs.lemmas.Bool.{lt-ltb}
 use Rattle.sk_lex.specs.declared.token.Keyword.TheVariants as key
 use Rattle.sk_lex.specs.declared.token.Token.{Token}
-use Rattle.sk_lex.specs.declared.token.Word.{Word}
 use Rattle.sk_lex.specs.declared.token.Word.TheVariants as word
 use Rattle.sk_lex.specs.Front.{Text}
 use Rattle.sk_parse.specs.declared.fault.ParseFault.TheVariants as parse
@@ -14,20 +13,18 @@ use Rattle.sk_parse.specs.Places.{words}
 use Rattle.sk_script.specs.declared.legible.Legible.{Legible}
 use Rattle.sk_script.specs.declared.line.Kind.{Kind}
 use Rattle.sk_script.specs.declared.line.Kind.TheVariants as kind
-use Rattle.sk_script.specs.declared.script.Line.{Line}
 use Rattle.sk_script.specs.declared.script.Script.{Script}
 use Rattle.sk_script.specs.declared.script.ScriptFault.TheVariants as fault
 use Rattle.sk_script.specs.Body.{rest_of}
 use Rattle.sk_script.specs.Faults.{IsFirstFaultAt, IsPlaced, LineFault, TableFault, is_cut, line_of}
 use Rattle.sk_script.specs.Header.{answer, table, table_line}
 use Rattle.sk_script.specs.Legible.{legible}
-use Rattle.sk_script.specs.Rules.{IsBody}
 use Rattle.sk_script.specs.Script.{and_then, behind, by_kind, good_len, gone_on, is_passed_over, kind_of, line_added, nothing, option_added, passed, read_from, script_of, table_added, with_body, with_front, with_last, with_line, with_option, with_table, without_return}
 use Rattle.sk_script.proofs.BodyFaults.{FailsAt}
 use Rattle.sk_script.proofs.BodyRules.{body_read}
 use Rattle.sk_script.proofs.BodyFails.{body_fails}
 use Rattle.sk_script.proofs.LineFaults.{begins_some, place_is}
-use Rattle.sk_script.proofs.LineRules.{is_body, kind_is, set_line_read, table_line_read}
+use Rattle.sk_script.proofs.LineRules.{body_opens, is_body, kind_is, set_line_read, table_line_read}
 use Rattle.sk_script.proofs.OptionFaults.{option_fails}
 use Rattle.sk_script.proofs.OptionRules.{set_to}
 use Rattle.sk_script.proofs.ScriptFaults.{first_fault}
@@ -60,10 +57,6 @@ as_kind script n front k is = ap (λ k. by_kind k script n front) is
 is_bad : (long : Bool) (line : Text) → (long ≡ true) ⊎ (good_len line < length line) → (long || nat_lt (good_len line) (length line)) ≡ true
 is_bad long line (inl is) = ap (λ b. b || nat_lt (good_len line) (length line)) is
 is_bad long line (inr is) = ap (λ b. long || b) (lt-ltb (good_len line) (length line) is) ∙ or-true long
-
-body_begins : (ws : List Word) (what : Line) → IsBody ws what → (m : ℕ) × (us : List Word) × (ws ≡ word.Number m ∷ us)
-body_begins _ _ (IsBody.plain m us what session says) = (m, _, refl)
-body_begins _ _ (IsBody.closed m us what session says) = (m, _, refl)
 
 line_fails : (script : Script) (long : Bool) (n : ℕ) (line : Text) (p : ℕ) → LineFault script long line p → FailsAt (with_line long script n line) p
 unfolding with_line with_table with_option with_body passed
@@ -99,9 +92,8 @@ line_fails script long n line _ (LineFault.spoilt_option name k some first is ma
     ∙ spoilt_fails front (option_added script (set_to n name k)) spoilt
 line_fails script long n line _ (LineFault.spoilt_body what some is spoilt) =
     let front = legible long line in
-    let begins = body_begins (words front.tokens) what is in
     by_some script long n line some
-    ∙ as_kind script n front kind.Body (is_body script.lines front.tokens begins.0 begins.1 begins.2)
+    ∙ as_kind script n front kind.Body (is_body script.lines front.tokens (words front.tokens) refl (body_opens (words front.tokens) what is))
     ∙ ap (λ r. and_then r (λ what. and_then (behind front) (λ _. Ok (line_added script n what)))) (body_read (words front.tokens) what is front.tokens front.end refl)
     ∙ spoilt_fails front (line_added script n what) spoilt
 

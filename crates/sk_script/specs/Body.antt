@@ -1,4 +1,4 @@
--- Lines of a session: its number, a colon, STEP or a statement, and at will a semicolon.
+-- Lines that say something: a session's number, a colon, STEP or a statement, and at will a semicolon; or FLUSH or STOP alone.
 use Rattle.std.specs.Prelude.{ℕ, ◌+◌, Bool, true, false, not, ◌&&◌, ◌==◌, nat_le, if◌then◌else◌, List, [], ◌∷◌, take, drop, Option, Some, None, Result, Ok, Err}
 use Rattle.std.specs.List.{prefix_len}
 use Rattle.sk_lex.specs.declared.token.Keyword.TheVariants as key
@@ -30,6 +30,12 @@ is_mark byte _ = false
 abbrev pub is_step : Word → Bool
 is_step (word.Key key.Step) = true
 is_step _ = false
+
+-- what a line says by its first word, where it is of no session
+abbrev pub command_of : Word → Option Line
+command_of (word.Key key.Flush) = Some line.Flush
+command_of (word.Key key.Stop) = Some line.Stop
+command_of _ = None
 
 -- no semicolon
 abbrev pub goes_on : Token → Bool
@@ -80,7 +86,11 @@ abbrev pub by_session : Option ℕ → Token → List Token → ℕ → Result L
 by_session (Some session) t ts end = behind_session session ts end
 by_session None t ts end = misfit (t ∷ ts) end
 
--- what a line of a session says
+abbrev pub by_command : Option Line → Token → List Token → ℕ → Result Line ParseFault
+by_command (Some what) t ts end = alone (Ok what) ts
+by_command None t ts end = by_session (session_of t.word) t ts end
+
+-- what a line says
 unfoldable pub body : List Token → ℕ → Result Line ParseFault
 body [] end = misfit [] end
-body (t ∷ ts) end = by_session (session_of t.word) t ts end
+body (t ∷ ts) end = by_command (command_of t.word) t ts end

@@ -20,7 +20,7 @@ use Rattle.sk_script.specs.declared.script.Script.{Script}
 use Rattle.sk_script.specs.declared.script.ScriptFault.{ScriptFault}
 use Rattle.sk_script.specs.declared.script.ScriptFault.TheVariants as fault
 use Rattle.sk_script.specs.declared.script.TableLine.{TableLine}
-use Rattle.sk_script.specs.Body.{begins_step, goes_on, rest_of, session_of}
+use Rattle.sk_script.specs.Body.{begins_step, command_of, goes_on, rest_of, session_of}
 use Rattle.sk_script.specs.Header.{engine_of, is_bool_key, new_column, new_table, sort_of}
 use Rattle.sk_script.specs.Legible.{legible}
 use Rattle.sk_script.specs.Limits.{longest_script}
@@ -73,7 +73,7 @@ pub data OptionFault (options : List OptionLine) (end : ℕ) : List Token → �
   number : (t : Token) (ts : List Token) (name : List ℕ) → new_option options t.word ≡ Some name → Misses (number_of name) ts → OptionFault options end (t ∷ ts) (place_of end ts)
   behind : (t u v : Token) (ts : List Token) (name : List ℕ) (k : ℕ) → new_option options t.word ≡ Some name → number_of name u.word ≡ Some k → OptionFault options end (t ∷ u ∷ v ∷ ts) (v.from + 1)
 
--- ---- lines of a session
+-- ---- lines that say something
 
 -- Where the tokens of what a session says are at fault. Nothing stands behind STEP, and a statement's own fault is its first
 -- by its grammar.
@@ -81,9 +81,12 @@ pub data SaidFault (end : ℕ) : List Token → ℕ → Type 0 where
   step : (t v : Token) (ts : List Token) → t.word ≡ word.Key key.Step → SaidFault end (t ∷ v ∷ ts) (v.from + 1)
   statement : (ts : List Token) (place : ℕ) → begins_step ts ≡ false → IsFirstFault ts end place → SaidFault end ts place
 
--- Where the tokens of a session's line are at fault.
+-- Where the tokens of a line that says something are at fault.
 pub data BodyFault (end : ℕ) : List Token → ℕ → Type 0 where
-  session : (ts : List Token) → Misses session_of ts → BodyFault end ts (place_of end ts)
+  -- neither a session nor FLUSH nor STOP
+  first : (ts : List Token) → Misses command_of ts → Misses session_of ts → BodyFault end ts (place_of end ts)
+  -- nothing stands behind FLUSH and STOP
+  command : (t v : Token) (ts : List Token) (what : Line) → command_of t.word ≡ Some what → BodyFault end (t ∷ v ∷ ts) (v.from + 1)
   colon : (t : Token) (ts : List Token) (n : ℕ) → session_of t.word ≡ Some n → IsNoMark mark.colon ts → BodyFault end (t ∷ ts) (place_of end ts)
   plain : (t c : Token) (ts : List Token) (n place : ℕ) → session_of t.word ≡ Some n → c.word ≡ word.Mark mark.colon mark.none → list_all goes_on ts ≡ true → SaidFault end ts place
       → BodyFault end (t ∷ c ∷ ts) place

@@ -10,3 +10,4 @@ pub mod Faults
 pub mod Tables
 pub mod Texts
 pub mod Words
+pub mod Generated

@@ -1,5 +1,5 @@
 -- The grammar of scripts as rules, apart from any reader: which bytes are which script.
-use Rattle.std.specs.Prelude.{◌≡◌, ◌↔◌, ◌≤◌, ℕ, ◌+◌, Bool, true, false, List, [], ◌∷◌, ◌++◌, length, map, Ok}
+use Rattle.std.specs.Prelude.{◌≡◌, ◌↔◌, ◌≤◌, ℕ, ◌+◌, Bool, true, false, List, [], ◌∷◌, ◌++◌, length, map, Option, Some, None, Ok}
 use Rattle.std.specs.List.{list_all}
 use Rattle.sk_lex.specs.declared.token.Keyword.{Keyword}
 use Rattle.sk_lex.specs.declared.token.Keyword.TheVariants as key
@@ -55,20 +55,24 @@ IsSet ws name k = ws ≡ word.Key key.Set ∷ word.Name name ∷ word.Number k �
 abbrev pub IsSession : ℕ → Type 0
 IsSession n = (1 ≤ n) × (n ≤ most_sessions)
 
--- the session whose line it is
-abbrev pub session_in : Line → ℕ
-session_in (line.Says n s) = n
-session_in (line.Step n) = n
+-- the session whose line it is, if it is one of a session
+abbrev pub session_in : Line → Option ℕ
+session_in (line.Says n s) = Some n
+session_in (line.Step n) = Some n
+session_in line.Flush = None
+session_in line.Stop = None
 
 -- "STEP" | statement
 pub data IsSaid (n : ℕ) : List Word → Line → Type 0 where
   step : IsSaid n (word.Key key.Step ∷ []) (line.Step n)
   statement : (us : List Word) (s : Statement) → Says us s → IsSaid n us (line.Says n s)
 
--- number ":" said [ ";" ]
+-- number ":" said [ ";" ] | "FLUSH" | "STOP"
 pub data IsBody : List Word → Line → Type 0 where
   plain : (n : ℕ) (us : List Word) (what : Line) → IsSession n → IsSaid n us what → IsBody (word.Number n ∷ word.Mark mark.colon mark.none ∷ us) what
   closed : (n : ℕ) (us : List Word) (what : Line) → IsSession n → IsSaid n us what → IsBody (word.Number n ∷ word.Mark mark.colon mark.none ∷ us ++ word.Mark mark.semicolon mark.none ∷ []) what
+  flush : IsBody (word.Key key.Flush ∷ []) line.Flush
+  stop : IsBody (word.Key key.Stop ∷ []) line.Stop
 
 -- ---- lines
 

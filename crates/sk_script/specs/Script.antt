@@ -47,7 +47,7 @@ kind_by (word.Key key.Table) = kind.Table
 kind_by (word.Key key.Set) = kind.Option
 kind_by _ = kind.Body
 
--- a line makes a table, sets an option or says something; behind a session's line each says something
+-- a line makes a table, sets an option or says something; behind one that says something each does
 abbrev pub kind_of : List ScriptLine → List Token → Kind
 kind_of [] (t ∷ ts) = kind_by t.word
 kind_of _ _ = kind.Body

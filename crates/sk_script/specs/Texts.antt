@@ -8,3 +8,5 @@ use Rattle.sk_script.specs.declared.script.Line.TheVariants as line
 abbrev pub says_short : Line → Bool
 says_short (line.Says session s) = texts_are_short s
 says_short (line.Step session) = true
+says_short line.Flush = true
+says_short line.Stop = true

@@ -1,4 +1,4 @@
-//! Lines of a session.
+//! Lines that say something: those of sessions, FLUSH and STOP.
 
 ghost use Rattle.std.specs.Prelude.{◌≡◌, ◌≤◌, length};
 ghost use Rattle.std.specs.List.{prefix_len};
@@ -70,6 +70,29 @@ fn statement_len(tokens: &[Token]) -> usize
     n
 }
 
+/// What a line says by its first word, where it is of no session.
+fn command_of(word: &Word) -> Option<Line>
+    ensures { result ≡ spec.command_of word.now }
+{
+    match word {
+        Word::Key(Keyword::Flush) => Some(Line::Flush),
+        Word::Key(Keyword::Stop) => Some(Line::Stop),
+        _ => None,
+    }
+}
+
+/// What was found, with nothing behind it.
+fn alone(found: Line, rest: &[Token], end: u32) -> Result<Line, ParseFault>
+    requires { IsLine rest.now end }
+    ensures { result ≡ spec.alone (Ok found) rest.now }
+{
+    if rest.is_empty() {
+        Ok(found)
+    } else {
+        Err(misfit(rest, end))
+    }
+}
+
 /// STEP alone, or a statement.
 #[tactic(auto, using(crate::proofs::Rising::line_behind), unfolding(crate::specs::Body::phrase))]
 fn phrase(alloc: Global, session: u16, tokens: &[Token], end: u32) -> Result<Line, ParseFault>
@@ -77,13 +100,7 @@ fn phrase(alloc: Global, session: u16, tokens: &[Token], end: u32) -> Result<Lin
     ensures { Gives wants result (spec.phrase session tokens.now end) }
 {
     match tokens {
-        [first, rest @ ..] if is_step(&first.word) => {
-            if rest.is_empty() {
-                Ok(Line::Step { session })
-            } else {
-                Err(misfit(rest, end))
-            }
-        }
+        [first, rest @ ..] if is_step(&first.word) => alone(Line::Step { session }, rest, end),
         _ => {
             let statement = statement(alloc, tokens, end)?;
             Ok(Line::Says { session, statement })
@@ -106,11 +123,7 @@ fn closed(
     ensures { Gives wants result (spec.closed session tokens.now end rest.now) }
 {
     let found = phrase(alloc, session, tokens, end)?;
-    if rest.is_empty() {
-        Ok(found)
-    } else {
-        Err(misfit(rest, rest_end))
-    }
+    alone(found, rest, rest_end)
 }
 
 /// What is said, with or without a semicolon behind it.
@@ -126,7 +139,7 @@ fn said(alloc: Global, session: u16, tokens: &[Token], end: u32) -> Result<Line,
     }
 }
 
-/// What a line of a session says.
+/// What a line says: FLUSH or STOP alone, or what the session says whose number stands in front.
 #[tactic(auto, using(crate::proofs::Rising::line_behind), unfolding(crate::specs::Body::body))]
 pub fn body(alloc: Global, tokens: &[Token], end: u32) -> Result<Line, ParseFault>
     requires { IsLine tokens.now end }
@@ -135,6 +148,9 @@ pub fn body(alloc: Global, tokens: &[Token], end: u32) -> Result<Line, ParseFaul
     let [first, behind @ ..] = tokens else {
         return Err(misfit(tokens, end));
     };
+    if let Some(command) = command_of(&first.word) {
+        return alone(command, behind, end);
+    }
     let Some(session) = session_of(&first.word) else {
         return Err(misfit(tokens, end));
     };

@@ -2,6 +2,8 @@
 #![tactic(auto)]
 
 mod body;
+mod drawing;
+mod generating;
 mod header;
 mod laws;
 mod legible;
@@ -13,6 +15,7 @@ mod script;
 mod settings;
 mod words;
 
+pub use generating::generate;
 pub use laws::{bytes_are_read_by_the_grammar, faults_are_read_by_the_grammar};
 pub use reading::read_script;
 pub use script::{
@@ -20,8 +23,8 @@ pub use script::{
     TableLineList,
 };
 pub use settings::Settings;
-pub use sk_text::{put_reply_lines, put_report, put_script_fault};
-pub use words::place;
+pub use sk_text::{put_flush_lines, put_reply_lines, put_report, put_script_fault};
+pub use words::{place, transfers_of};
 
 #[cfg(test)]
 mod tests;

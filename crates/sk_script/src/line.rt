@@ -64,7 +64,7 @@ pub enum Kind {
     Table,
     /// It sets an option.
     Option,
-    /// A session says something.
+    /// It says something.
     Body,
 }
 
@@ -78,7 +78,7 @@ fn kind_by(word: &Word) -> Kind
     }
 }
 
-/// What a line does by its first word. Behind a session's line each is one of a session.
+/// What a line does by its first word. Behind one that says something each does.
 fn kind_of(lines: &[ScriptLine], tokens: &[Token]) -> Kind
     ensures { result ≡ spec.kind_of lines.now tokens.now }
 {

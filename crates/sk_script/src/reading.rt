@@ -158,8 +158,8 @@ pub fn read_script(alloc: Global, bytes: &[u8]) -> Result<Script, ScriptFault>
     // Each option that it sets is in its range, and none is set twice.
     ensures options { IfOk result (λ script. CanSet [] script.options) }
 
-    // Each line behind the headers is of a session from 1 to 64.
-    ensures sessions { IfOk result (λ script. AllByRecursion (λ l. IsSession (session_in l.what)) script.lines) }
+    // Each line that is of a session is of one from 1 to 64.
+    ensures sessions { IfOk result (λ script. AllByRecursion (λ l. IfSome (session_in l.what) IsSession) script.lines) }
 
     // Each text that a statement may write has at most 255 bytes.
     ensures texts { IfOk result (λ script. AllByRecursion (λ l. says_short l.what ≡ true) script.lines) }

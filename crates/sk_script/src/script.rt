@@ -43,6 +43,10 @@ pub enum Line {
         /// The session's number.
         session: u16,
     },
+    /// What was committed is made durable.
+    Flush,
+    /// The run stops. Lines behind this one are read and not played.
+    Stop,
 }
 
 /// A line behind the tables and the options.

@@ -1,4 +1,4 @@
-use crate::{Line, Script, ScriptFault, Settings, place, read_script};
+use crate::{Line, Script, ScriptFault, Settings, generate, place, read_script, transfers_of};
 use sk_rows::{Sort, Statement};
 use std::test::Fail;
 
@@ -13,7 +13,7 @@ fn fault(rt: &HostRuntime, bytes: &[u8]) -> (u32, u32) {
 
 #[test]
 fn faults(rt: HostRuntime) {
-    let rows: [(&[u8], u32, u32); 30] = [
+    let rows: [(&[u8], u32, u32); 33] = [
         (b"1: SELEC", 1, 4),
         (b"TABLE a MEMORY id BOOL", 1, 16),
         (b"", 0, 0),
@@ -31,9 +31,13 @@ fn faults(rt: HostRuntime) {
         (b"1: SELECT * FROM ;", 1, 18),
         (b"1:", 1, 3),
         (b"1 COMMIT", 1, 3),
-        (b"FLUSH", 1, 1),
         (b"CHECKPOINT", 1, 1),
-        (b"STOP", 1, 1),
+        // FLUSH and STOP
+        (b"FLUSH;", 1, 6),
+        (b"STOP 1", 1, 6),
+        (b"1: FLUSH", 1, 4),
+        (b"FLUSH\nSET points 2", 2, 1),
+        (b"STOP\n1: X", 2, 4),
         // the line of a table
         (
             b"TABLE a MEMORY id INT, v INT\nTABLE a STORAGE id INT",
@@ -216,7 +220,8 @@ fn scripts(rt: HostRuntime) {
 
 #[test]
 fn options(rt: HostRuntime) {
-    let text: &[u8] = b"SET points 9\nTABLE a MEMORY id INT\n\nSET startm 7\n3: STEP\n64: STEP;";
+    let text: &[u8] =
+        b"SET points 9\nTABLE a MEMORY id INT\n\nSET startm 7\n3: STEP\nflush\n64: STEP;\n sToP ";
     let Ok(script) = read_script(rt.alloc(), text) else {
         assert!(rt; false);
         return;
@@ -227,12 +232,14 @@ fn options(rt: HostRuntime) {
     };
     assert!(rt; points.line == 1 && points.name.as_slice() == b"points".as_slice());
     assert!(rt; startm.line == 4 && startm.number == 7);
-    let [step, last] = script.lines.as_slice() else {
+    let [step, flush, last, stop] = script.lines.as_slice() else {
         assert!(rt; false);
         return;
     };
     assert!(rt; step.line == 5 && matches!(step.what, Line::Step { session: 3 }));
-    assert!(rt; last.line == 6 && matches!(last.what, Line::Step { session: 64 }));
+    assert!(rt; flush.line == 6 && matches!(flush.what, Line::Flush));
+    assert!(rt; last.line == 7 && matches!(last.what, Line::Step { session: 64 }));
+    assert!(rt; stop.line == 8 && matches!(stop.what, Line::Stop));
     let wanted = Settings {
         partitions: 8,
         points: 9,
@@ -244,12 +251,52 @@ fn options(rt: HostRuntime) {
     assert!(rt; script.settings() == wanted);
 }
 
+/// Words of a command line.
+fn words_of(rt: &HostRuntime, texts: &[&str]) -> Result<Vec<String>, Fail> {
+    let mut words = Vec::new(rt.alloc());
+    for text in texts {
+        words.push(String::from_str(rt.alloc(), *text)?)?;
+    }
+    Ok(words)
+}
+
 #[test]
 fn places(rt: HostRuntime) -> Result<(), Fail> {
-    let run = String::from_str(rt.alloc(), "run")?;
-    let dir = String::from_str(rt.alloc(), "d")?;
-    let words = [run, dir];
-    assert!(rt; place(&words) == Some("d"));
+    let run = words_of(&rt, &["run", "d"])?;
+    assert!(rt; place(run.as_slice()) == Some("d"));
+    assert!(rt; transfers_of(run.as_slice()).is_none());
     assert!(rt; place(&[]).is_none());
+    let rows: [(&str, &str, Option<(u32, u32)>); 9] = [
+        ("1", "200", Some((1, 200))),
+        ("0", "0", Some((0, 0))),
+        ("65536", "100000", Some((65_536, 100_000))),
+        ("65537", "1", None),
+        ("1", "100001", None),
+        ("01", "1", None),
+        ("1", "00", None),
+        ("+1", "1", None),
+        ("", "99999999999999999999999999", None),
+    ];
+    for row in rows.iter() {
+        let words = words_of(&rt, &["gen", row.0, row.1, "d"])?;
+        assert!(rt; transfers_of(words.as_slice()) == row.2);
+        assert!(rt; place(words.as_slice()).is_some() == row.2.is_some());
+    }
+    Ok(())
+}
+
+#[test]
+fn generated(rt: HostRuntime) -> Result<(), Fail> {
+    let none = generate(rt.alloc(), 1, 0)?;
+    assert!(rt; none.tables.len() == 2 && none.options.is_empty() && none.lines.len() == 19);
+
+    // nine transfers are a round of eight and one of one, and a flush stands behind each
+    let script = generate(rt.alloc(), 1, 9)?;
+    let lines = script.lines.as_slice();
+    assert!(rt; lines.len() == 19 + 9 * 5 + 2);
+    for (i, line) in lines.iter().enumerate() {
+        assert!(rt; line.line as usize == i + 3);
+        assert!(rt; matches!(line.what, Line::Flush) == (i == 18 + 40 || i == 18 + 46));
+    }
     Ok(())
 }

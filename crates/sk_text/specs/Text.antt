@@ -1,6 +1,7 @@
--- The texts that a run prints: the replies in the order of their lines, and then the report of its commits and transactions.
-use Rattle.std.specs.Prelude.{ℕ, List, [], ◌∷◌, ◌++◌, Option, Some, None, true, false, if◌then◌else◌, ◌==◌, length, codes}
-use Rattle.std.specs.List.{flat_map}
+-- The texts that a run prints: the replies and what flushes give in the order of their lines, and then the report of its
+-- commits and transactions.
+use Rattle.std.specs.Prelude.{ℕ, List, [], ◌∷◌, ◌++◌, Option, Some, None, Bool, true, false, if◌then◌else◌, ◌==◌, length, codes}
+use Rattle.std.specs.List.{flat_map, list_any}
 use Rattle.std.specs.Fmt.{decimal, signed_decimal}
 use Rattle.sk_rows.specs.declared.value.Value.{Value}
 use Rattle.sk_rows.specs.declared.value.Value.TheVariants as value
@@ -22,6 +23,13 @@ use Rattle.sk_model.specs.declared.record.TxKind.TheVariants as kind
 use Rattle.sk_model.specs.declared.record.Ending.{Ending}
 use Rattle.sk_model.specs.declared.record.Ending.TheVariants as ending
 use Rattle.sk_model.specs.declared.record.Record.{Record}
+use Rattle.sk_model.specs.declared.receipt.Receipt.{Receipt}
+use Rattle.sk_model.specs.declared.receipt.FlushFault.{FlushFault}
+use Rattle.sk_model.specs.declared.receipt.FlushFault.TheVariants as refusal
+use Rattle.sk_model.specs.declared.call.EngineFault.{EngineFault}
+use Rattle.sk_model.specs.declared.call.EngineFault.TheVariants as fault
+use Rattle.sk_model.specs.Records.{same_label}
+use Rattle.sk_outcome.specs.declared.flush_note.FlushNote.{FlushNote}
 
 -- a number, or `-` where there is none
 abbrev pub number_text : Option ℕ → List ℕ
@@ -134,6 +142,43 @@ reply_lines session reply = rows_before session reply ++ session_line session (r
 abbrev pub replies_text : List (ℕ × Reply) → List ℕ
 replies_text replies = flat_map (λ r. reply_lines r.0 r.1) replies
 
+-- ---- what a flush gives
+
+-- a transaction is durable
+abbrev pub ack_line : Receipt → List ℕ
+ack_line r = codes "ACK " ++ label_text r.label ++ codes "\n"
+
+-- the durable cut behind a flush
+unfoldable pub flush_line : Point → List ℕ
+flush_line cut = codes "FLUSH " ++ decimal cut.a ++ codes " " ++ decimal cut.b ++ codes "\n"
+
+-- a flush that was refused; of a log that is full, the length that it would have
+abbrev pub refused_line : FlushFault → List ℕ
+refused_line refusal.Device = codes "FLUSH device\n"
+refused_line (refusal.LogFull n) = codes "FLUSH full " ++ decimal n ++ codes "\n"
+refused_line refusal.NoMemory = codes "FLUSH memory\n"
+
+-- its receipts and the cut, or its refusal alone
+abbrev pub flushed_by : Option FlushFault → List Receipt → Point → List ℕ
+flushed_by None receipts cut = flat_map ack_line receipts ++ flush_line cut
+flushed_by (Some refused) receipts cut = refused_line refused
+
+-- where its commits could not be read, that alone
+abbrev pub flushed_lines : FlushNote → List ℕ
+flushed_lines note = if note.unread then codes "SWEEP device\n" else flushed_by note.refused note.receipts note.cut
+
+-- a purge that failed
+abbrev pub sweep_line : Option EngineFault → List ℕ
+sweep_line None = []
+sweep_line (Some fault.NoMemory) = codes "SWEEP memory\n"
+sweep_line (Some _) = codes "SWEEP device\n"
+
+-- the lines of a flush, and of the purges that follow it, the memory engine's first
+unfoldable pub flush_text : FlushNote → List ℕ
+flush_text note = flushed_lines note ++ sweep_line note.sweep_mem ++ sweep_line note.sweep_store
+
+-- ---- the report
+
 abbrev pub order_line : Commit → List ℕ
 order_line c =
     codes "ORDER " ++ label_text c.label ++ codes " " ++ number_text c.mem ++ codes " " ++ number_text c.store ++ codes "\n"
@@ -159,20 +204,37 @@ ending_text ending.NoMemory = codes "memory"
 abbrev pub pair_text : Option ℕ → Option ℕ → List ℕ
 pair_text mem store = number_text mem ++ codes " " ++ number_text store
 
--- the line of a transaction that read a prefix of this length. What it may say of acknowledgement is not built yet.
-abbrev pub record_line : Record → ℕ → List ℕ
-record_line r place =
+-- what is said of acknowledgement. The flag: a receipt names the transaction.
+abbrev pub ack_text : Bool → Ending → List ℕ
+ack_text is_named ending.Committed = if is_named then codes "acked" else codes "pending"
+ack_text is_named _ = codes "-"
+
+-- the line of a transaction that read a prefix of this length
+unfoldable pub record_line : Bool → Record → ℕ → List ℕ
+record_line is_named r place =
     codes "TX " ++ label_text r.label ++ codes " " ++ kind_text r.kind ++ codes " " ++ pair_text r.mem r.store
-    ++ codes " " ++ decimal place ++ codes " " ++ ending_text r.ending ++ codes " " ++ pair_text r.drew_mem r.drew_store ++ codes " -\n"
+    ++ codes " " ++ decimal place ++ codes " " ++ ending_text r.ending ++ codes " " ++ pair_text r.drew_mem r.drew_store
+    ++ codes " " ++ ack_text is_named r.ending ++ codes "\n"
 
-abbrev pub record_lines : List Record → List ℕ → List ℕ
-record_lines [] places = []
-record_lines (r ∷ rs) [] = []
-record_lines (r ∷ rs) (p ∷ ps) = record_line r p ++ record_lines rs ps
+-- the lines of transactions, where a test says which of them receipts name
+abbrev pub record_lines : (Label → Bool) → List Record → List ℕ → List ℕ
+record_lines named [] places = []
+record_lines named (r ∷ rs) [] = []
+record_lines named (r ∷ rs) (p ∷ ps) = record_line (named r.label) r p ++ record_lines named rs ps
 
--- what stands behind the replies: the list of commits, and the transactions with the lengths of the prefixes that they read
-unfoldable pub report : List Commit → List Record → List ℕ → List ℕ
-report order records places = flat_map order_line order ++ record_lines records places
+-- one of the receipts names the transaction
+abbrev pub is_named : List Receipt → Label → Bool
+is_named receipts label = list_any (λ r. same_label r.label label) receipts
+
+-- the durable cut at the end
+unfoldable pub cut_line : Point → List ℕ
+cut_line cut = codes "CUT " ++ decimal cut.a ++ codes " " ++ decimal cut.b ++ codes "\n"
+
+-- what stands behind the replies: the list of commits, the transactions with the lengths of the prefixes that they read, and
+-- the durable cut. A committed transaction is acknowledged where a receipt of the run names it.
+unfoldable pub report : List Commit → List Record → List ℕ → List Receipt → Point → List ℕ
+report order records places receipts cut =
+    flat_map order_line order ++ record_lines (is_named receipts) records places ++ cut_line cut
 
 -- the one line of a run whose script has its first fault at this line and place
 unfoldable pub script_fault_text : ℕ → ℕ → List ℕ

@@ -1,8 +1,10 @@
-use crate::{put_reply_lines, put_report, put_script_fault};
+use crate::{put_flush_lines, put_reply_lines, put_report, put_script_fault};
 use sk_model::{
-    Commit, CommitList, Ending, EngineName, ErrWord, Label, Point, PointList, Record, RecordList,
-    Recycled, Reply, RowList, SaidList, StepName, TxKind, Why, WriteList,
+    Commit, CommitList, Ending, EngineFault, EngineName, ErrWord, FlushFault, Label, Point,
+    PointList, Receipt, ReceiptList, Record, RecordList, Recycled, Reply, RowList, SaidList,
+    StepName, TxKind, Why, WriteList,
 };
+use sk_outcome::FlushNote;
 use sk_rows::{Row, Txt, Value};
 use std::alloc::Global;
 use std::test::Fail;
@@ -170,21 +172,100 @@ fn transactions(alloc: Global) -> Result<RecordList, Fail> {
         Ending::Open,
         ((None, Some(6)), (None, None)),
     ))?;
+    records.push(transaction(
+        alloc,
+        Label { session: 4, k: 2 },
+        TxKind::Store,
+        Ending::Committed,
+        ((None, Some(6)), (None, Some(7))),
+    ))?;
     Ok(records)
+}
+
+/// Receipts for these labels.
+fn receipts(alloc: Global, labels: &[Label]) -> Result<ReceiptList, Fail> {
+    let mut receipts = ReceiptList::new(alloc);
+    for label in labels {
+        receipts.push(Receipt {
+            label: *label,
+            cut: POINT,
+        })?;
+    }
+    Ok(receipts)
 }
 
 #[test]
 fn reports_and_faults(rt: HostRuntime) -> Result<(), Fail> {
     let order = commits(rt.alloc())?;
     let records = transactions(rt.alloc())?;
+    let told = receipts(rt.alloc(), &[BY, Label { session: 1, k: 1 }])?;
     let mut out = String::new(rt.alloc());
-    assert!(rt; put_report(&mut out, order.as_slice(), records.as_slice(), &[0, 2, 4]).is_ok());
+    assert!(rt;
+        put_report(
+            rt.alloc(),
+            &mut out,
+            order.as_slice(),
+            records.as_slice(),
+            &[0, 2, 4, 3],
+            told.as_slice(),
+            POINT,
+        )
+        .is_ok()
+    );
     assert!(rt; put_script_fault(&mut out, 12, 5).is_ok());
     let text = b"ORDER 1.1 1 -\nORDER 4.1 - 6\nORDER 2.3 7 8\n\
-        TX 1.1 memory 0 - 0 committed 1 - -\n\
+        TX 1.1 memory 0 - 0 committed 1 - acked\n\
         TX 2.3 cross 3 5 2 checkfailed 7 8 -\n\
         TX 4.1 storage - 6 4 open - - -\n\
+        TX 4.2 storage - 6 3 committed - 7 pending\n\
+        CUT 2 3\n\
         FAULT script 12 5\n";
     assert!(rt; out.as_bytes() == text.as_slice());
+    Ok(())
+}
+
+fn note(alloc: Global, refused: Option<FlushFault>) -> Result<FlushNote, Fail> {
+    Ok(FlushNote {
+        receipts: receipts(alloc, &[BY, Label { session: 1, k: 1 }])?,
+        cut: POINT,
+        refused,
+        unread: false,
+        sweep_mem: None,
+        sweep_store: None,
+    })
+}
+
+#[test]
+fn flush_lines(rt: HostRuntime) -> Result<(), Fail> {
+    let mut swept = note(rt.alloc(), None)?;
+    swept.sweep_mem = Some(EngineFault::NoMemory);
+    swept.sweep_store = Some(EngineFault::Device);
+    let mut unread = note(rt.alloc(), None)?;
+    unread.unread = true;
+    let table = vec![in rt.alloc();
+        (note(rt.alloc(), None)?, "ACK 2.3\nACK 1.1\nFLUSH 2 3\n"),
+        (
+            swept,
+            "ACK 2.3\nACK 1.1\nFLUSH 2 3\nSWEEP memory\nSWEEP device\n"
+        ),
+        (unread, "SWEEP device\n"),
+        (
+            note(rt.alloc(), Some(FlushFault::LogFull { length: 60 }))?,
+            "FLUSH full 60\n"
+        ),
+        (
+            note(rt.alloc(), Some(FlushFault::NoMemory))?,
+            "FLUSH memory\n"
+        ),
+        (
+            note(rt.alloc(), Some(FlushFault::Device))?,
+            "FLUSH device\n"
+        ),
+    ]?;
+    for (note, lines) in table.as_slice() {
+        let mut out = String::new(rt.alloc());
+        assert!(rt; put_flush_lines(&mut out, note).is_ok());
+        assert!(rt; out.as_str() == *lines);
+    }
     Ok(())
 }
