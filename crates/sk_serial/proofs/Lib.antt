@@ -1,5 +1,17 @@
+-- the lines of a run, one behind the other, and its end
+pub mod Came
 pub mod Plays
-pub mod Ends
+pub mod Closing
+-- the store
+pub mod Showing
+pub mod Prefixes
+pub mod Lasts
+pub mod Saves
+pub mod Opened
+-- what is answered, from how it ended
 pub mod Found
--- a run that begins without rows
-pub mod Opening
+pub mod Whole
+pub mod Ends
+-- sums
+pub mod Totals
+pub mod Printed

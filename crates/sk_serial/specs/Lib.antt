@@ -1,2 +1,9 @@
+pub mod Flushed
+pub mod Saving
+pub mod Showing
+pub mod Summary
 pub mod Played
+pub mod Stored
+pub mod Lasting
+pub mod Printing
 pub mod Running

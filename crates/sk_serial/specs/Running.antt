@@ -1,24 +1,51 @@
--- What a run answers and prints, and what it takes of its source.
-use Rattle.std.specs.Prelude.{◌≡◌, ◌⊎◌, ◌↔◌, ℕ, ◌<◌, ◌≤◌, List, [], ◌∷◌, Option, Result, Ok, Err, Bool, true, false, length, take, IfSome, codes, ◌==◌}
-use Rattle.std.specs.List.{list_any, range_with_len}
+-- What a run answers and prints, what it takes of its source, and what becomes of its store.
+use Rattle.std.specs.Prelude.{◌≡◌, ◌⊎◌, ◌↔◌, ℕ, ◌<◌, ◌≤◌, List, [], ◌∷◌, Option, Some, None, Result, Ok, Err, Bool, true, false, length, take, is_some, IfSome, IsTrue, ◌==◌}
+use Rattle.std.specs.List.{list_any}
 use Rattle.std.specs.String.{string_bytes}
 use Rattle.std.specs.Io.KnownBytes.{Appends, Consumes, IsAtEnd}
 use Rattle.sk_outside.specs.Causes.{Rose}
-use Rattle.sk_outside.specs.Pieces.{AppendsFront}
+use Rattle.sk_device.specs.Disk.{Image, Disk, Steps, LeavesOnly}
+use Rattle.sk_model.specs.declared.receipt.Need.{Need}
+use Rattle.sk_codec.specs.declared.fault.What.{What}
+use Rattle.sk_log.specs.declared.ends.Ends.{Ends}
+use Rattle.sk_log.specs.Groups.{selection}
+use Rattle.sk_cut.specs.Acked.{Acked}
+use Rattle.sk_cut.specs.Batches.{as_cut}
+use Rattle.sk_cut.specs.Flush.{AllAt}
+use Rattle.sk_recover.specs.declared.opening.Opened.{Opened}
 use Rattle.sk_outcome.specs.declared.outcome.Outcome.{Outcome}
 use Rattle.sk_script.specs.declared.script.Script.{Script}
 use Rattle.sk_script.specs.declared.script.ScriptFault.TheVariants as fault
+use Rattle.sk_script.specs.Generated.{generated}
 use Rattle.sk_script.specs.Script.{script_of}
+use Rattle.sk_script.specs.Limits.{most_read}
 use Rattle.sk_text.specs.Text.{script_fault_text}
-use Rattle.sk_script.specs.Limits.{most_read, most_sessions}
-use Rattle.sk_serial.specs.declared.playing.Shown.{Shown}
+use Rattle.sk_run.specs.declared.ended.Ended.{Ended}
+use Rattle.sk_serial.specs.declared.ending.Shown.{Shown}
 use Rattle.sk_serial.specs.declared.run_fault.RunFault.{RunFault}
 use Rattle.sk_serial.specs.declared.run_fault.RunFault.TheVariants as run_fault
-use Rattle.sk_store.specs.Begun.{no_rows}
-use Rattle.sk_run.specs.declared.ended.Ended.{Ended}
-use Rattle.sk_run.specs.Told.{RunLine, ObeyTable}
-use Rattle.sk_run.specs.Ended.{HasEnded}
-use Rattle.sk_serial.specs.Played.{tables_in, AreAnswered, HasShown, run_text}
+use Rattle.sk_serial.specs.Saving.{Saved, Grows}
+use Rattle.sk_serial.specs.Played.{tables_in, HasShown, printed_text}
+use Rattle.sk_serial.specs.Showing.{ShowsPrefix, ShowsSome}
+use Rattle.sk_serial.specs.Stored.{start_of, beginning, StartsFrom, WhyNone}
+use Rattle.sk_serial.specs.Lasting.{Lasts, Lasting}
+use Rattle.sk_serial.specs.Printing.{Prints, usage_text, read_text, device_text, memory_text, damaged_text}
+
+-- ---- statuses
+
+-- Ok, usage, script fault, read fault, write fault, device fault, damaged files, want of memory
+abbrev pub is_status : ℕ → Bool
+is_status n = list_any (λ status. status == n) (0 ∷ 2 ∷ 3 ∷ 4 ∷ 5 ∷ 6 ∷ 7 ∷ 8 ∷ [])
+
+-- the script was not played to its end: the text is one line of its own, and nothing is handed out but the disk
+abbrev pub is_fault : ℕ → Bool
+is_fault n = list_any (λ status. status == n) (2 ∷ 3 ∷ 4 ∷ 7 ∷ 8 ∷ [])
+
+-- it was, and the disk did not fail
+abbrev pub is_whole : ℕ → Bool
+is_whole n = list_any (λ status. status == n) (0 ∷ 5 ∷ [])
+
+-- ---- the script
 
 -- the bytes were read: to the end of the source, or through the first byte past the longest script
 pub record IsRead (old new : Option (List ℕ)) (bytes : List ℕ) : Type 0 where
@@ -39,122 +66,165 @@ pub record Departs (old new : Option (List ℕ)) (line place : ℕ) : Type 0 whe
   pub read : IsRead old new bytes
   pub departs : script_of bytes ≡ Err (fault.At line place)
 
+-- the script was read; or it is the one that is generated of a seed and a number of transfers
+abbrev pub IsScript : Option (ℕ × ℕ) → Option (List ℕ) → Option (List ℕ) → Script → Type 0
+IsScript None old new script = Reads old new script
+IsScript (Some made) old new script = script ≡ generated made.0 made.1
+
+-- of how many transfers
+abbrev pub transfers_in : Option (ℕ × ℕ) → Option ℕ
+transfers_in None = None
+transfers_in (Some made) = Some made.1
+
 -- no fault but those of reading
 abbrev pub IsReadFault : RunFault → Type 0
-IsReadFault run_fault.Usage = ⊥
-IsReadFault (run_fault.Script line place) = ⊥
 IsReadFault run_fault.Read = Unit {0}
 IsReadFault run_fault.NoMemory = Unit {0}
+IsReadFault _ = ⊥
 
 abbrev pub ReadAs : List ℕ → Result Script RunFault → Type 0
 ReadAs bytes (Ok script) = script_of bytes ≡ Ok script
-ReadAs bytes (Err run_fault.Usage) = ⊥
 ReadAs bytes (Err (run_fault.Script line place)) = script_of bytes ≡ Err (fault.At line place)
-ReadAs bytes (Err run_fault.Read) = ⊥
 ReadAs bytes (Err run_fault.NoMemory) = Unit {0}
+ReadAs bytes (Err _) = ⊥
 
--- the run of a script, with its text
-abbrev pub IsShown : Script → Shown → Type 0
-IsShown script shown = HasShown (tables_in script) script.lines shown.ended (string_bytes shown.text)
+-- why there is no script
+abbrev pub WhyNoScript : Option (List ℕ) → Option (List ℕ) → RunFault → Type 0
+WhyNoScript old new (run_fault.Script line place) = Departs old new line place
+WhyNoScript old new run_fault.Read = Unit {0}
+WhyNoScript old new run_fault.NoMemory = Unit {0}
+WhyNoScript old new _ = ⊥
 
--- what became of bytes: a script that was played, or its first fault
-abbrev pub PlayedOf : List ℕ → Result Shown RunFault → Type 0
-PlayedOf bytes (Ok shown) = (script : Script) × (script_of bytes ≡ Ok script) × IsShown script shown
-PlayedOf bytes (Err run_fault.Usage) = ⊥
-PlayedOf bytes (Err (run_fault.Script line place)) = script_of bytes ≡ Err (fault.At line place)
-PlayedOf bytes (Err run_fault.Read) = ⊥
-PlayedOf bytes (Err run_fault.NoMemory) = Unit {0}
+-- ---- the run
 
--- what became of a source: a script was played, or its first fault was found; the words were no cause
-abbrev pub Found : Option (List ℕ) → Option (List ℕ) → Result Shown RunFault → Type 0
-Found old new (Ok shown) = (script : Script) × Reads old new script × IsShown script shown
-Found old new (Err run_fault.Usage) = ⊥
-Found old new (Err (run_fault.Script line place)) = Departs old new line place
-Found old new (Err run_fault.Read) = Unit {0}
-Found old new (Err run_fault.NoMemory) = Unit {0}
+abbrev pub saved_of : {D : Type 0} → Shown D → Saved
+saved_of s = record { receipts = s.receipts; cut = s.cut }
 
--- the text is added to what was written, or a front of it where the sink failed
-abbrev pub Prints : Option (List ℕ) → Option (List ℕ) → ℕ → ℕ → List ℕ → Type 0
-Prints old new before now text = Appends old new text ⊎ (AppendsFront old new text × Rose before now)
+-- the text that is printed of a run in place of that of its lines, and all else the same
+pub record HasText {D : Type 0} (transfers : Option ℕ) (old new : Shown D) : Type 0 where
+  pub text : string_bytes new.text ≡ printed_text transfers (string_bytes old.text) old.ended (saved_of old) old.last
+  pub ended : new.ended ≡ old.ended
+  pub receipts : new.receipts ≡ old.receipts
+  pub cut : new.cut ≡ old.cut
+  pub disk : new.disk ≡ old.disk
+  pub broken : new.broken ≡ old.broken
 
-abbrev pub usage_text : List ℕ
-usage_text = codes "FAULT usage\n"
+-- ---- the outcome
 
-abbrev pub read_text : List ℕ
-read_text = codes "FAULT read\n"
+-- nothing is handed out but the disk
+pub record IsNothing {D : Type 0} (o : Outcome D) : Type 0 where
+  pub records : o.records ≡ []
+  pub mem : o.mem ≡ []
+  pub store : o.store ≡ []
+  pub points : o.points ≡ []
+  pub order : o.order ≡ []
+  pub prefixes : o.prefixes ≡ []
+  pub receipts : o.receipts ≡ []
+  pub cut : o.cut ≡ selection 0 0
 
-abbrev pub memory_text : List ℕ
-memory_text = codes "FAULT memory\n"
+-- the run is what is handed out
+pub record IsHandedOut {D : Type 0} (ended : Ended) (o : Outcome D) : Type 0 where
+  pub records : o.records ≡ ended.records
+  pub mem : o.mem ≡ ended.mem
+  pub store : o.store ≡ ended.store
+  pub points : o.points ≡ ended.points
+  pub order : o.order ≡ ended.order
+  pub prefixes : o.prefixes ≡ ended.places
 
--- Ok, usage, script fault, read fault, write fault, want of memory
-abbrev pub is_status : ℕ → Bool
-is_status n = list_any (λ status. status == n) (0 ∷ 2 ∷ 3 ∷ 4 ∷ 5 ∷ 8 ∷ [])
+abbrev pub saved_out : {D : Type 0} → Outcome D → Saved
+saved_out o = record { receipts = o.receipts; cut = o.cut }
 
--- the status of a text of its own, with nothing handed out
-abbrev pub is_fault : ℕ → Bool
-is_fault n = list_any (λ status. status == n) (2 ∷ 3 ∷ 4 ∷ 8 ∷ [])
+-- what was shown is handed out and printed; the status is 6 where the disk failed, and else 5 where the sink did
+pub record IsFinished {D : Type 0} (shown : Shown D) (o : Outcome D) (old new : Option (List ℕ)) (before now : ℕ) : Type 0 where
+  pub handed_out : IsHandedOut shown.ended o
+  pub saved : saved_out o ≡ saved_of shown
+  pub disk_is : o.disk ≡ shown.disk
+  pub printed : Prints old new before now (string_bytes shown.text)
+  pub status : ((shown.broken ≡ true) × (o.status ≡ 6)) ⊎ ((shown.broken ≡ false) × (((o.status ≡ 0) × Appends old new (string_bytes shown.text)) ⊎ ((o.status ≡ 5) × Rose before now)))
 
--- a fault's status and its text; for want of memory that of memory stands in its place
-abbrev pub IsPrinted : ℕ → List ℕ → ℕ → Option (List ℕ) → Option (List ℕ) → ℕ → ℕ → Type 0
-IsPrinted fault text status old new before now = (status ≡ fault) × Prints old new before now text
+module _ {D : Type 0} (disk : Disk D) (faults : D → ℕ) where
+  -- The script was played on what the disk opened as: each of its lines was answered so, up to where it was cut off, and this is handed out and
+  -- printed of it. Whatever a stop leaves of the disk from then on shows a prefix of the printed list, and at the end the one at the durable cut,
+  -- or where the disk failed perhaps the one of the flush that it failed. Whoever was told that a commit is durable was told once, and not too
+  -- early; and unless the disk failed, every image opens at the durable cut.
+  pub record IsPlayed (script : Script) (transfers : Option ℕ) (was : D) (ended : Ended) (saved : Saved) (text : List ℕ) (broken : Bool) (now : D) : Type 0 where
+    pub opened : Opened
+    pub begun : D
+    pub starts : StartsFrom disk faults script (is_some transfers) was opened begun
+    pub shown : HasShown opened.catalog (beginning opened) script.lines transfers ended saved text
+    pub prefixes : IsTrue disk.tells → LeavesOnly disk (ShowsSome opened.catalog opened.rows ended.order ended.points) begun now
+    pub at_end : IsTrue disk.tells → (image : Image) → disk.may_leave now image → ShowsPrefix opened.catalog opened.rows ended.order saved.cut image ⊎ ((broken ≡ true) × ShowsSome opened.catalog opened.rows ended.order ended.points image)
+    pub grows : Grows disk faults begun now
+    pub needs : List Need
+    pub acked : Acked needs saved.receipts saved.cut
+    pub stands : broken ≡ false → IsTrue disk.tells → (ends : Ends) × AllAt disk (as_cut saved.cut) ends now
+    pub broke : broken ≡ true → Rose (faults was) (faults now)
 
-abbrev pub IsRefused : RunFault → ℕ → Option (List ℕ) → Option (List ℕ) → ℕ → ℕ → Type 0
-IsRefused run_fault.Usage status old new before now = IsPrinted 2 usage_text status old new before now
-IsRefused (run_fault.Script line place) status old new before now =
-    IsPrinted 3 (script_fault_text line place) status old new before now ⊎ IsPrinted 8 memory_text status old new before now
-IsRefused run_fault.Read status old new before now = IsPrinted 4 read_text status old new before now
-IsRefused run_fault.NoMemory status old new before now = IsPrinted 8 memory_text status old new before now
+  -- a script was read or generated, and was played
+  abbrev pub IsShown : Option (ℕ × ℕ) → Option (List ℕ) → Option (List ℕ) → D → Shown D → Type 0
+  IsShown made left left_now was s = (script : Script) × IsScript made left left_now script × IsPlayed script (transfers_in made) was s.ended (saved_of s) (string_bytes s.text) s.broken s.disk
 
--- nothing is handed out
-abbrev pub IsNothing : Outcome → Type 0
-IsNothing outcome = (outcome.records ≡ []) × (outcome.mem ≡ []) × (outcome.store ≡ []) × (outcome.points ≡ []) × (outcome.order ≡ []) × (outcome.prefixes ≡ [])
+  -- the script was not played to its end, and this is what became of the disk
+  pub record HasHalted (script : Script) (generated : Bool) (was : D) (fault : RunFault) (now : D) : Type 0 where
+    pub why : WhyNone disk faults script generated was now fault
+    pub lasts : IsTrue disk.tells → Steps disk (Lasts (tables_in script) (start_of script)) was now
+    pub later : faults was ≤ faults now
 
--- the run is handed out, and its text is printed, or a front of it
-pub record IsFinished (shown : Shown) (outcome : Outcome) (old new : Option (List ℕ)) (before now : ℕ) : Type 0 where
-  pub records : outcome.records ≡ shown.ended.records
-  pub mem : outcome.mem ≡ shown.ended.mem
-  pub store : outcome.store ≡ shown.ended.store
-  pub points : outcome.points ≡ shown.ended.points
-  pub order : outcome.order ≡ shown.ended.order
-  pub prefixes : outcome.prefixes ≡ shown.ended.places
-  pub printed : ((outcome.status ≡ 0) × Appends old new (string_bytes shown.text)) ⊎ ((outcome.status ≡ 5) × AppendsFront old new (string_bytes shown.text) × Rose before now)
+  -- why no script was played to its end
+  abbrev pub WhyHalted : Option (ℕ × ℕ) → Option (List ℕ) → Option (List ℕ) → D → RunFault → D → Type 0
+  WhyHalted made left left_now was run_fault.Usage now = ⊥
+  WhyHalted made left left_now was (run_fault.Script line place) now = Departs left left_now line place
+  WhyHalted made left left_now was run_fault.Read now = Unit {0}
+  WhyHalted made left left_now was run_fault.NoMemory now = Unit {0}
+  WhyHalted made left left_now was fault now = (script : Script) × IsScript made left left_now script × WhyNone disk faults script (is_some (transfers_in made)) was now fault
 
--- the script has a fault, and it is the one that is printed
-pub record IsScriptFault (left left_now old new : Option (List ℕ)) (before now : ℕ) : Type 0 where
-  pub line : ℕ
-  pub place : ℕ
-  pub departs : Departs left left_now line place
-  pub printed : Prints old new before now (script_fault_text line place)
+  -- none was, and this is what became of the disk
+  pub record IsHalted (made : Option (ℕ × ℕ)) (left left_now : Option (List ℕ)) (was : D) (fault : RunFault) (now : D) : Type 0 where
+    pub why : WhyHalted made left left_now was fault now
+    pub lasts : IsTrue disk.tells → Lasting disk was now
+    pub later : faults was ≤ faults now
 
--- A script was read and played: each of its lines was answered so, and the outcome is what its run has handed out. So the records, the list
--- of commits and the prefixes of the records are of one database, the records of each session say what its lines were answered, what the
--- table of refusals refuses was refused so and nothing else was, and this is what was printed for them.
-pub record HasRun (left left_now written written_now : Option (List ℕ)) (outcome : Outcome) : Type 0 where
-  pub script : Script
-  pub reads : Reads left left_now script
-  pub told : List RunLine
-  pub answered : AreAnswered script.lines told
-  pub handed : Ended
-  pub ended : HasEnded (tables_in script) (no_rows (tables_in script)) told handed
-  pub refused : ObeyTable (tables_in script) told (range_with_len 1 most_sessions)
-  pub records : outcome.records ≡ handed.records
-  pub mem : outcome.mem ≡ handed.mem
-  pub store : outcome.store ≡ handed.store
-  pub points : outcome.points ≡ handed.points
-  pub order : outcome.order ≡ handed.order
-  pub prefixes : outcome.prefixes ≡ handed.places
-  pub whole : outcome.status ≡ 0 → Appends written written_now (run_text told handed.order handed.records handed.places)
-  pub part : outcome.status ≡ 5 → AppendsFront written written_now (run_text told handed.order handed.records handed.places)
+  -- A script was read or generated, and was played: so the records, the list of commits and the prefixes of the records are of one database over the rows with
+  -- which the store opened, the records of each session say what its lines were answered, and what the table of refusals refuses was refused
+  -- so. This text is printed of it, or a front of it where the sink failed.
+  pub record HasRun (made : Option (ℕ × ℕ)) (left left_now written written_now : Option (List ℕ)) (writes writes_now : ℕ) (was : D) (broken : Bool) (o : Outcome D) : Type 0 where
+    pub script : Script
+    pub is_script : IsScript made left left_now script
+    pub ended : Ended
+    pub handed_out : IsHandedOut ended o
+    pub text : List ℕ
+    pub played : IsPlayed script (transfers_in made) was ended (saved_out o) text broken o.disk
+    pub printed : Prints written written_now writes writes_now text
+    pub whole : o.status ≡ 0 → Appends written written_now text
 
--- What a run answers and prints, where left is what the source has left, written what the sink holds, and each has its count of
--- faults: before the call and behind it.
-pub record Ran (is_form : Bool) (left left_now written written_now : Option (List ℕ)) (reads reads_now writes writes_now : ℕ) (outcome : Outcome) : Type 0 where
-  pub status : is_status outcome.status ≡ true
-  pub usage : (outcome.status ≡ 2) ↔ (is_form ≡ false)
-  pub usage_printed : outcome.status ≡ 2 → Prints written written_now writes writes_now usage_text
-  pub script : outcome.status ≡ 3 → IsScriptFault left left_now written written_now writes writes_now
-  pub read : outcome.status ≡ 4 → Rose reads reads_now × Prints written written_now writes writes_now read_text
-  pub write : outcome.status ≡ 5 → Rose writes writes_now
-  pub memory : outcome.status ≡ 8 → Prints written written_now writes writes_now memory_text
-  pub nothing : is_fault outcome.status ≡ true → IsNothing outcome
-  pub played : is_fault outcome.status ≡ false → HasRun left left_now written written_now outcome
+  -- the script has a fault, and it is the one that is printed: a departure from the grammar, or a line that does not go with the store that is there
+  pub record IsScriptFault (made : Option (ℕ × ℕ)) (left left_now written written_now : Option (List ℕ)) (writes writes_now : ℕ) (was now : D) : Type 0 where
+    pub line : ℕ
+    pub place : ℕ
+    pub why : Departs left left_now line place ⊎ ((place ≡ 1) × WhyHalted made left left_now was (run_fault.Tables line) now)
+    pub printed : Prints written written_now writes writes_now (script_fault_text line place)
+
+  -- the stored files are not those of a store, and their first fault is printed
+  pub record IsDamaged (made : Option (ℕ × ℕ)) (left left_now written written_now : Option (List ℕ)) (writes writes_now : ℕ) (was now : D) : Type 0 where
+    pub file : ℕ
+    pub place : ℕ
+    pub what : What
+    pub why : WhyHalted made left left_now was (run_fault.Damaged file place what) now
+    pub printed : Prints written written_now writes writes_now (damaged_text file place what)
+
+  -- What a run answers, prints and leaves of its disk, where left is what the source has left, written what the sink holds, and each has its count of
+  -- faults: before the call and behind it.
+  pub record Ran (is_form : Bool) (made : Option (ℕ × ℕ)) (left left_now written written_now : Option (List ℕ)) (reads reads_now writes writes_now : ℕ) (was : D) (o : Outcome D) : Type 0 where
+    pub status : is_status o.status ≡ true
+    pub usage : (o.status ≡ 2) ↔ (is_form ≡ false)
+    pub usage_printed : o.status ≡ 2 → Prints written written_now writes writes_now usage_text
+    pub script : o.status ≡ 3 → IsScriptFault made left left_now written written_now writes writes_now was o.disk
+    pub read : o.status ≡ 4 → Rose reads reads_now × Prints written written_now writes writes_now read_text
+    pub write : o.status ≡ 5 → Rose writes writes_now
+    pub device : o.status ≡ 6 → Rose (faults was) (faults o.disk)
+    pub damaged : o.status ≡ 7 → IsDamaged made left left_now written written_now writes writes_now was o.disk
+    pub memory : o.status ≡ 8 → Prints written written_now writes writes_now memory_text
+    pub nothing : is_fault o.status ≡ true → IsNothing o
+    pub played : is_whole o.status ≡ true → HasRun made left left_now written written_now writes writes_now was false o
+    pub broken : o.status ≡ 6 → (IsNothing o × Prints written written_now writes writes_now device_text) ⊎ HasRun made left left_now written written_now writes writes_now was true o
+    pub lasts : IsTrue disk.tells → Lasting disk was o.disk

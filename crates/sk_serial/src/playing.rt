@@ -1,199 +1,306 @@
-//! A script that was read, played and put into text.
+//! The lines of a script, played one after another.
 
-ghost use Rattle.std.specs.Prelude.{◌≡◌, ◌∷◌, ◌++◌, [], map, length, true, IfOk, Ok, None};
+ghost use Rattle.std.specs.Prelude.{◌≡◌, ◌++◌, ◌≤◌, ◌<◌, length, true, false, IfOk, IfErr, IfSome};
 ghost use Rattle.std.specs.List.{AllByRecursion};
+ghost use Rattle.std.specs.Option.{option_copied};
 ghost use Rattle.std.specs.String.{string_bytes};
-ghost use Rattle.sk_rows.specs.Catalog.{add_fault};
-ghost use Rattle.sk_store.specs.Begun.{no_rows};
+ghost use Rattle.sk_script.specs.declared.script.Line.TheVariants as line;
 ghost use Rattle.sk_script.specs.Limits.{most_sessions};
-ghost use Rattle.sk_script.specs.Options.{CanSet, AreInRange};
 ghost use Rattle.sk_script.specs.Rules.{IsSession, session_in};
-ghost use Rattle.sk_script.specs.Tables.{CanAdd};
 ghost use Rattle.sk_script.specs.Texts.{says_short};
+ghost use Rattle.sk_text.specs.Text.{reply_lines, flush_text};
+ghost use Rattle.sk_run.specs.Told.{IsShort};
 ghost use Rattle.sk_run.specs.Kept.{IsKnown, KeepsOn, RefusesOn};
 ghost use Rattle.sk_serial.specs.Played as spec;
-ghost use Rattle.sk_serial.specs.Running.{IsShown};
+ghost use Rattle.sk_serial.specs.Saving.{Grows, Saves, saved_in};
+ghost use Rattle.sk_serial.specs.declared.run_fault.RunFault.TheVariants as run_fault;
 
+use crate::flushing::{flush, is_broken};
+use crate::halt::{Halt, starved};
 use sk_chain::Engine;
+use sk_cut::Teller;
+use sk_device::Device;
+use sk_durable::Durable;
 use sk_mem::MemEngine;
-use sk_model::{KeyedRows, Point, Reply, Tables};
-use sk_rows::{Catalog, CatalogFault, NoMemory, Table};
-use sk_run::{Ended, Run};
-use sk_script::{Line, Script, ScriptLine, Settings, TableLine, put_reply_lines, put_report};
+use sk_model::{Ending, Need, Record, Reply};
+use sk_outcome::FlushNote;
+use sk_rows::{NoMemory, Statement};
+use sk_run::Run;
+use sk_script::{Line, ScriptLine, put_flush_lines, put_reply_lines};
 use sk_session::Unanswered;
 use sk_store::StoreEngine;
 use std::alloc::Global;
 use std::mem::drop;
 
-/// The sessions that a script may have.
-const MOST_SESSIONS: u16 = 64;
-
-/// A run, with its text.
+/// A run under way, with its store and the text of what it has answered so far.
 #[derive(Drop)]
-pub(crate) struct Shown {
-    pub(crate) ended: Ended,
+pub(crate) struct Playing<D: Device + Drop, F: Teller + Drop> {
+    pub(crate) run: Run,
+    pub(crate) store: Durable<D, F>,
     pub(crate) text: String,
+    /// What the last line of a session was answered.
+    pub(crate) last: Option<Reply>,
+    /// A STOP was played, or the disk failed: no line is played any more.
+    pub(crate) ended: bool,
 }
 
-/// A run under way, with the text of its replies so far.
-#[derive(Drop)]
-struct Playing {
+/// The greater of a snapshot and the number that was drawn behind it.
+fn needed(snapshot: Option<u32>, drew: Option<u32>) -> Option<u32> {
+    match (snapshot, drew) {
+        (Some(snapshot), Some(drew)) => Some(snapshot.max(drew)),
+        (snapshot, _) => snapshot,
+    }
+}
+
+/// What a committed transaction waits for.
+fn need_of(record: &Record) -> Option<Need> {
+    match record.ending {
+        Ending::Committed => Some(Need {
+            label: record.label,
+            mem: needed(record.mem, record.drew_mem),
+            store: needed(record.store, record.drew_store),
+        }),
+        _ => None,
+    }
+}
+
+/// Queues the need of the session's last transaction, where it has committed. One that was queued before is passed over.
+pub(crate) fn queue_last<D: Device + Drop, F: Teller + Drop>(
+    run: &Run,
+    store: &mut Durable<D, F>,
+    session: u16,
+)
+    requires known { IsKnown run.now session }
+    requires reserved { 0 < store.old.reserved }
+    ensures disk { store.new.disk ≡ store.old.disk }
+    ensures open { store.new.broken ≡ store.old.broken }
+    ensures saved { saved_in store.new ≡ saved_in store.old }
+{
+    if let Some(record) = run.last_record(session) {
+        if let Some(need) = need_of(record) {
+            store.queue(need);
+        }
+    }
+}
+
+/// The store with a place for a need.
+pub(crate) fn reserved<D: Device + Drop, F: Teller + Drop>(
+    store: Durable<D, F>,
+) -> Result<Durable<D, F>, Halt<D>>
+    ensures place { IfOk result (λ s. 0 < s.reserved) }
+    ensures disk { IfOk result (λ s. s.disk ≡ store.disk) }
+    ensures open { IfOk result (λ s. s.broken ≡ store.broken) }
+    ensures saved { IfOk result (λ s. saved_in s ≡ saved_in store) }
+    ensures halted { IfErr result (λ h. h.disk ≡ store.disk) }
+    ensures starved { IfErr result (λ h. h.fault ≡ run_fault.NoMemory) }
+{
+    let mut store = store;
+    match store.reserve() {
+        Ok(()) => Ok(store),
+        Err(_) => Err(starved(store)),
+    }
+}
+
+/// What a statement of a session, or STEP, is answered, where it could be.
+fn answered<D: Device + Drop, F: Teller + Drop>(
+    alloc: Global,
     run: Run,
-    text: String,
-}
-
-/// The catalog with one more table, which it takes.
-fn with_table(catalog: Catalog, table: Table) -> Result<Catalog, NoMemory>
-    requires { add_fault catalog table ≡ None }
-    ensures { IfOk result (λ c. c ≡ catalog ++ table ∷ []) }
+    store: Durable<D, F>,
+    session: u16,
+    statement: Option<&Statement>,
+) -> Result<(Run, Durable<D, F>, Reply), Halt<D>>
+    requires known { IsKnown run session }
+    requires short { IsShort (option_copied statement) }
+    ensures kept { IfOk result (λ all. KeepsOn ⟦<MemEngine as Engine>⟧.stands ⟦<StoreEngine as Engine>⟧.stands run session (option_copied statement.entry) all.0 all.2) }
+    ensures refused { IfOk result (λ all. RefusesOn ⟦<MemEngine as Engine>⟧.stands ⟦<StoreEngine as Engine>⟧.stands run session (option_copied statement.entry) all.0 all.2) }
+    ensures tables { IfOk result (λ all. all.0.catalog ≡ run.catalog) }
+    ensures sessions { IfOk result (λ all. length all.0.sessions ≡ length run.sessions) }
+    ensures store { IfOk result (λ all. all.1 ≡ store) }
+    ensures halted { IfErr result (λ h. h.disk ≡ store.disk) }
+    ensures starved { IfErr result (λ h. h.fault ≡ run_fault.NoMemory) }
 {
-    let mut catalog = catalog;
-    match catalog.add(table) {
-        Ok(()) => Ok(catalog),
-        Err((_, CatalogFault::NoMemory)) => Err(NoMemory),
-        Err(_) => unreachable!(),
+    match run.line(alloc, session, statement) {
+        Ok((run, reply)) => Ok((run, store, reply)),
+        Err(Unanswered) => Err(starved(store)),
     }
 }
 
-fn catalog_of(alloc: Global, lines: Vec<TableLine>) -> Result<Catalog, NoMemory>
-    requires { CanAdd [] (map (λ l. l.table) lines.items) }
-    ensures { IfOk result (λ c. c ≡ map (λ l. l.table) lines.items) }
+/// The text with what a session was answered behind it.
+fn with_reply(text: String, session: u16, reply: &Reply) -> Result<String, NoMemory>
+    ensures { IfOk result (λ t. string_bytes t ≡ string_bytes text ++ reply_lines session reply.now) }
 {
-    let mut catalog = Catalog::new(alloc);
-    for line in lines {
-        catalog = with_table(catalog, line.table)?;
-    }
-    Ok(catalog)
+    let mut text = text;
+    put_reply_lines(&mut text, session, reply)?;
+    Ok(text)
 }
 
-/// No rows, for each table of the catalog.
-fn empty_tables(alloc: Global, catalog: &Catalog) -> Result<Tables, NoMemory>
-    ensures { IfOk result (λ rows. rows ≡ no_rows catalog.now) }
+/// The text with the lines of a flush behind it.
+pub(crate) fn with_flush(text: String, note: &FlushNote) -> Result<String, NoMemory>
+    ensures { IfOk result (λ t. string_bytes t ≡ string_bytes text ++ flush_text note.now) }
 {
-    let mut rows = Tables::new(alloc);
-    for _table in catalog.tables() {
-        rows.push(KeyedRows::new(alloc))?;
-    }
-    Ok(rows)
+    let mut text = text;
+    put_flush_lines(&mut text, note)?;
+    Ok(text)
 }
 
-/// The run of a script before its first line.
-fn begun(alloc: Global, catalog: Catalog, settings: Settings) -> Result<Playing, NoMemory>
-    requires { AreInRange settings }
-    ensures { IfOk result (λ p. spec.HasPlayed ⟦<MemEngine as Engine>⟧.stands ⟦<StoreEngine as Engine>⟧.stands catalog [] p.run (string_bytes p.text)) }
+/// Plays a statement of a session, or STEP.
+fn play_said<D: Device + Drop, F: Teller + Drop>(
+    alloc: Global,
+    playing: Playing<D, F>,
+    session: u16,
+    statement: Option<&Statement>,
+) -> Result<Playing<D, F>, Halt<D>>
+    requires known { IsKnown playing.run session }
+    requires short { IsShort (option_copied statement) }
+    requires open { (playing.ended ≡ false) × (playing.store.broken ≡ false) }
+    ensures played { IfOk result (λ p. spec.PlaysNext D.disk ⟦<MemEngine as Engine>⟧.stands ⟦<StoreEngine as Engine>⟧.stands (spec.now playing.run (string_bytes playing.text) playing.store playing.last) (spec.line_of session (option_copied statement.entry)) (spec.now p.run (string_bytes p.text) p.store p.last) p.ended) }
+    ensures saves { IfOk result (λ p. Saves D.disk D.faults playing.store p.store) }
+    ensures open { IfOk result (λ p. (p.ended ≡ false) × (p.store.broken ≡ false)) }
+    ensures sessions { IfOk result (λ p. length p.run.sessions ≡ length playing.run.sessions) }
+    ensures halted { IfErr result (λ h. Grows D.disk D.faults playing.store.disk h.disk) }
+    ensures starved { IfErr result (λ h. h.fault ≡ run_fault.NoMemory) }
 {
-    let start = Point {
-        a: settings.startm,
-        b: settings.starts,
-        commit: false,
+    let Playing {
+        run,
+        store,
+        text,
+        last: _,
+        ended,
+    } = playing;
+    let store = reserved(store)?;
+    let (run, mut store, reply) = answered(alloc, run, store, session, statement)?;
+    let text = match with_reply(text, session, &reply) {
+        Ok(text) => text,
+        Err(NoMemory) => return Err(starved(store)),
     };
-    let rows = empty_tables(alloc, &catalog)?;
-    let run = Run::new(
-        alloc,
-        catalog,
-        &rows,
-        settings.partitions,
-        settings.points,
-        start,
-        MOST_SESSIONS,
-    )?;
+    queue_last(&run, &mut store, session);
     Ok(Playing {
         run,
-        text: String::new(alloc),
+        store,
+        text,
+        last: Some(reply),
+        ended,
     })
 }
 
-/// A call that could not be answered is one for which memory was wanted.
-fn or_memory(answer: Result<(Run, Reply), Unanswered>) -> Result<(Run, Reply), NoMemory>
-    ensures { IfOk result (λ all. answer ≡ Ok all) }
+/// Plays FLUSH. Where the disk fails, no line is played behind it.
+fn play_flush<D: Device + Drop, F: Teller + Drop>(
+    alloc: Global,
+    playing: Playing<D, F>,
+) -> Result<Playing<D, F>, Halt<D>>
+    requires open { playing.store.broken ≡ false }
+    ensures played { IfOk result (λ p. spec.PlaysNext D.disk ⟦<MemEngine as Engine>⟧.stands ⟦<StoreEngine as Engine>⟧.stands (spec.now playing.run (string_bytes playing.text) playing.store playing.last) line.Flush (spec.now p.run (string_bytes p.text) p.store p.last) p.ended) }
+    ensures saves { IfOk result (λ p. Saves D.disk D.faults playing.store p.store) }
+    ensures open { IfOk result (λ p. p.ended ≡ p.store.broken) }
+    ensures sessions { IfOk result (λ p. length p.run.sessions ≡ length playing.run.sessions) }
+    ensures halted { IfErr result (λ h. Grows D.disk D.faults playing.store.disk h.disk) }
+    ensures starved { IfErr result (λ h. h.fault ≡ run_fault.NoMemory) }
 {
-    match answer {
-        Ok(all) => Ok(all),
-        Err(Unanswered) => Err(NoMemory),
-    }
+    let Playing {
+        run,
+        store,
+        text,
+        last,
+        ..
+    } = playing;
+    let (run, store, note) = flush(alloc, run, store)?;
+    let text = match with_flush(text, &note) {
+        Ok(text) => text,
+        Err(NoMemory) => return Err(starved(store)),
+    };
+    let ended = is_broken(&note);
+    Ok(Playing {
+        run,
+        store,
+        text,
+        last,
+        ended,
+    })
 }
 
-/// What a line is answered, and the run behind it.
-fn answered(alloc: Global, run: Run, line: &Line) -> Result<(Run, Reply), NoMemory>
-    requires known { IsKnown run (session_in line.now) }
-    requires short { says_short line.now ≡ true }
-    ensures kept { IfOk result (λ all. KeepsOn ⟦<MemEngine as Engine>⟧.stands ⟦<StoreEngine as Engine>⟧.stands run (session_in line.now) (spec.statement_in line.now) all.0 all.1) }
-    ensures refused { IfOk result (λ all. RefusesOn ⟦<MemEngine as Engine>⟧.stands ⟦<StoreEngine as Engine>⟧.stands run (session_in line.now) (spec.statement_in line.now) all.0 all.1) }
-    ensures tables { IfOk result (λ all. all.0.catalog ≡ run.catalog) }
-    ensures sessions { IfOk result (λ all. length all.0.sessions ≡ length run.sessions) }
+fn stopped<D: Device + Drop, F: Teller + Drop>(playing: Playing<D, F>) -> Playing<D, F>
+    ensures run { (result.run ≡ playing.run) × (result.text ≡ playing.text) × (result.last ≡ playing.last) }
+    ensures store { result.store ≡ playing.store }
+    ensures ended { result.ended ≡ true }
 {
-    match line {
-        Line::Says { session, statement } => or_memory(run.line(alloc, *session, Some(statement))),
-        Line::Step { session } => or_memory(run.line(alloc, *session, None)),
-    }
-}
-
-fn session_in(line: &Line) -> u16
-    ensures { result ≡ session_in line.now }
-{
-    match line {
-        Line::Says { session, .. } | Line::Step { session } => *session,
-    }
+    let mut playing = playing;
+    playing.ended = true;
+    playing
 }
 
 /// Plays one line more.
-fn play_line(alloc: Global, playing: Playing, line: &ScriptLine) -> Result<Playing, NoMemory>
-    requires known { IsKnown playing.run (session_in line.now.what) }
+fn play_line<D: Device + Drop, F: Teller + Drop>(
+    alloc: Global,
+    playing: Playing<D, F>,
+    line: &ScriptLine,
+) -> Result<Playing<D, F>, Halt<D>>
+    requires session { IfSome (session_in line.now.what) IsSession }
+    requires known { length playing.run.sessions ≡ most_sessions }
     requires short { says_short line.now.what ≡ true }
-    ensures played { IfOk result (λ p. spec.PlaysOn ⟦<MemEngine as Engine>⟧.stands ⟦<StoreEngine as Engine>⟧.stands playing.run (string_bytes playing.text) (line.now ∷ []) p.run (string_bytes p.text)) }
+    requires open { (playing.ended ≡ false) × (playing.store.broken ≡ false) }
+    ensures played { IfOk result (λ p. spec.PlaysNext D.disk ⟦<MemEngine as Engine>⟧.stands ⟦<StoreEngine as Engine>⟧.stands (spec.now playing.run (string_bytes playing.text) playing.store playing.last) line.now.what (spec.now p.run (string_bytes p.text) p.store p.last) p.ended) }
+    ensures saves { IfOk result (λ p. Saves D.disk D.faults playing.store p.store) }
+    ensures open { IfOk result (λ p. p.ended ≡ false → p.store.broken ≡ false) }
     ensures sessions { IfOk result (λ p. length p.run.sessions ≡ length playing.run.sessions) }
+    ensures halted { IfErr result (λ h. Grows D.disk D.faults playing.store.disk h.disk) }
+    ensures starved { IfErr result (λ h. h.fault ≡ run_fault.NoMemory) }
 {
-    let Playing { run, mut text } = playing;
-    let (run, reply) = answered(alloc, run, &line.what)?;
-    put_reply_lines(&mut text, session_in(&line.what), &reply)?;
-    Ok(Playing { run, text })
+    match &line.what {
+        Line::Says { session, statement } => play_said(alloc, playing, *session, Some(statement)),
+        Line::Step { session } => play_said(alloc, playing, *session, None),
+        Line::Flush => play_flush(alloc, playing),
+        Line::Stop => Ok(stopped(playing)),
+    }
 }
 
-/// Plays all lines, one after another.
-fn play_lines(alloc: Global, begun: Playing, lines: Vec<ScriptLine>) -> Result<Playing, NoMemory>
-    requires sessions { AllByRecursion (λ l. IsSession (session_in l.what)) lines.items }
+/// Plays one line more, unless the run has ended.
+fn play_or_pass<D: Device + Drop, F: Teller + Drop>(
+    alloc: Global,
+    playing: Playing<D, F>,
+    line: &ScriptLine,
+) -> Result<Playing<D, F>, Halt<D>>
+    requires session { IfSome (session_in line.now.what) IsSession }
+    requires known { length playing.run.sessions ≡ most_sessions }
+    requires short { says_short line.now.what ≡ true }
+    requires open { playing.ended ≡ false → playing.store.broken ≡ false }
+    ensures passed { playing.ended ≡ true → IfOk result (λ p. p ≡ playing) }
+    ensures played { playing.ended ≡ false → IfOk result (λ p. spec.PlaysNext D.disk ⟦<MemEngine as Engine>⟧.stands ⟦<StoreEngine as Engine>⟧.stands (spec.now playing.run (string_bytes playing.text) playing.store playing.last) line.now.what (spec.now p.run (string_bytes p.text) p.store p.last) p.ended) }
+    ensures saves { IfOk result (λ p. Saves D.disk D.faults playing.store p.store) }
+    ensures open { IfOk result (λ p. p.ended ≡ false → p.store.broken ≡ false) }
+    ensures sessions { IfOk result (λ p. length p.run.sessions ≡ length playing.run.sessions) }
+    ensures halted { IfErr result (λ h. Grows D.disk D.faults playing.store.disk h.disk) }
+    ensures starved { IfErr result (λ h. h.fault ≡ run_fault.NoMemory) }
+{
+    if playing.ended {
+        return Ok(playing);
+    }
+    play_line(alloc, playing, line)
+}
+
+/// Plays all lines, one after another, up to the one that ends the run.
+pub(crate) fn play_lines<D: Device + Drop, F: Teller + Drop>(
+    alloc: Global,
+    begun: Playing<D, F>,
+    lines: Vec<ScriptLine>,
+) -> Result<Playing<D, F>, Halt<D>>
+    requires sessions { AllByRecursion (λ l. IfSome (session_in l.what) IsSession) lines.items }
     requires texts { AllByRecursion (λ l. says_short l.what ≡ true) lines.items }
     requires known { length begun.run.sessions ≡ most_sessions }
-    ensures { IfOk result (λ p. spec.PlaysOn ⟦<MemEngine as Engine>⟧.stands ⟦<StoreEngine as Engine>⟧.stands begun.run (string_bytes begun.text) lines.items p.run (string_bytes p.text)) }
+    requires open { (begun.ended ≡ false) × (begun.store.broken ≡ false) }
+    ensures played { IfOk result (λ p. spec.PlaysAll D.disk ⟦<MemEngine as Engine>⟧.stands ⟦<StoreEngine as Engine>⟧.stands (spec.now begun.run (string_bytes begun.text) begun.store begun.last) lines.items (spec.now p.run (string_bytes p.text) p.store p.last) p.ended) }
+    ensures saves { IfOk result (λ p. Saves D.disk D.faults begun.store p.store) }
+    ensures open { IfOk result (λ p. p.ended ≡ false → p.store.broken ≡ false) }
+    ensures known { IfOk result (λ p. length p.run.sessions ≡ most_sessions) }
+    ensures halted { IfErr result (λ h. Grows D.disk D.faults begun.store.disk h.disk) }
+    ensures starved { IfErr result (λ h. h.fault ≡ run_fault.NoMemory) }
 {
     let mut playing = begun;
     for line in lines {
-        playing = play_line(alloc, playing, &line)?;
+        playing = match play_or_pass(alloc, playing, &line) {
+            Ok(next) => next,
+            Err(halt) => return Err(halt),
+        };
         drop(line);
     }
     Ok(playing)
-}
-
-/// Ends a run, and puts its report behind the text of its replies.
-fn with_report(alloc: Global, playing: Playing) -> Result<Shown, NoMemory>
-    ensures { IfOk result (λ s. spec.EndsSo ⟦<MemEngine as Engine>⟧.stands ⟦<StoreEngine as Engine>⟧.stands playing.run (string_bytes playing.text) s.ended (string_bytes s.text)) }
-{
-    let Playing { run, mut text } = playing;
-    let ended = match run.finish(alloc) {
-        Ok(ended) => ended,
-        Err(_) => return Err(NoMemory),
-    };
-    put_report(
-        &mut text,
-        ended.order.as_slice(),
-        ended.records.as_slice(),
-        ended.places.as_slice(),
-    )?;
-    Ok(Shown { ended, text })
-}
-
-/// Plays a script that was read, and puts the run into text.
-pub(crate) fn play_script(alloc: Global, script: Script) -> Result<Shown, NoMemory>
-    requires tables { CanAdd [] (spec.tables_in script) }
-    requires options { CanSet [] script.options }
-    requires sessions { AllByRecursion (λ l. IsSession (session_in l.what)) script.lines }
-    requires texts { AllByRecursion (λ l. says_short l.what ≡ true) script.lines }
-    ensures { IfOk result (λ shown. IsShown script shown) }
-{
-    let settings = script.settings();
-    let Script { tables, lines, .. } = script;
-    let catalog = catalog_of(alloc, tables.into_vec())?;
-    let begun = begun(alloc, catalog, settings)?;
-    let playing = play_lines(alloc, begun, lines.into_vec())?;
-    with_report(alloc, playing)
 }

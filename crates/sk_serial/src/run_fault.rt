@@ -1,5 +1,6 @@
 //! Why no script was played.
 
+use sk_codec::What;
 use sk_rows::NoMemory;
 
 /// Why no script was played.
@@ -9,8 +10,15 @@ pub(crate) enum RunFault {
     Usage,
     /// This is the first fault of the script.
     Script { line: u32, place: u32 },
+    /// This line does not go with the store that is there.
+    Tables { line: u32 },
     /// The source failed.
     Read,
+    /// The disk failed before the run began.
+    Device,
+    /// This is the first field of the stored files that is wrong.
+    Damaged { file: u8, place: u64, what: What },
+    /// Memory was wanted and refused.
     NoMemory,
 }
 

@@ -1,4 +1,5 @@
 use super::*;
+use sk_device::MemDevice;
 use sk_outcome::Outcome;
 use sk_outside::{Failed, MemSink, MemSource, Sink, Source};
 use std::alloc::{AllocError, Global};
@@ -21,8 +22,11 @@ const FIRST_TEXT: &[&str] = &[
     "1: ROW 1, 10\n",
     "1: ROWS 1\n",
     "1: COMMITTED\n",
+    "ACK 1.1\n",
+    "FLUSH 1 0\n",
     "ORDER 1.1 1 -\n",
-    "TX 1.1 memory 0 - 0 committed 1 - -\n",
+    "TX 1.1 memory 0 - 0 committed 1 - acked\n",
+    "CUT 1 0\n",
 ];
 
 const TWO_ENGINES: &[&str] = &[
@@ -72,17 +76,25 @@ const TWO_ENGINES_TEXT: &[&str] = &[
     "1: ROWS 2\n",
     "1: ROW TRUE, 1\n",
     "1: ROWS 1\n",
+    "ACK 1.1\n",
+    "ACK 1.2\n",
+    "ACK 1.3\n",
+    "ACK 1.5\n",
+    "ACK 1.6\n",
+    "ACK 1.7\n",
+    "FLUSH 2 3\n",
     "ORDER 1.1 - 1\n",
     "ORDER 1.2 - 2\n",
     "ORDER 1.3 1 3\n",
     "ORDER 1.5 2 -\n",
-    "TX 1.1 storage - 0 0 committed - 1 -\n",
-    "TX 1.2 storage - 1 1 committed - 2 -\n",
-    "TX 1.3 cross 0 2 2 committed 1 3 -\n",
+    "TX 1.1 storage - 0 0 committed - 1 acked\n",
+    "TX 1.2 storage - 1 1 committed - 2 acked\n",
+    "TX 1.3 cross 0 2 2 committed 1 3 acked\n",
     "TX 1.4 cross 1 3 3 rolledback - - -\n",
-    "TX 1.5 memory 1 - 3 committed 2 - -\n",
-    "TX 1.6 storage - 3 3 committed - - -\n",
-    "TX 1.7 memory 2 - 4 committed - - -\n",
+    "TX 1.5 memory 1 - 3 committed 2 - acked\n",
+    "TX 1.6 storage - 3 3 committed - - acked\n",
+    "TX 1.7 memory 2 - 4 committed - - acked\n",
+    "CUT 2 3\n",
 ];
 
 const REFUSALS: &[&str] = &[
@@ -134,14 +146,19 @@ const REFUSALS_TEXT: &[&str] = &[
     "1: ROW 1, 9223372036854775807\n",
     "1: ROWS 2\n",
     "1: COMMITTED\n",
+    "ACK 1.1\n",
+    "ACK 1.4\n",
+    "ACK 1.5\n",
+    "FLUSH 2 1\n",
     "ORDER 1.4 - 1\n",
     "ORDER 1.1 1 -\n",
     "ORDER 1.5 2 -\n",
-    "TX 1.1 memory 0 - 0 committed 1 - -\n",
+    "TX 1.1 memory 0 - 0 committed 1 - acked\n",
     "TX 1.2 memory 1 - 2 rolledback - - -\n",
     "TX 1.3 memory 1 - 2 rolledback - - -\n",
-    "TX 1.4 storage - 0 0 committed - 1 -\n",
-    "TX 1.5 cross 1 - 2 committed 2 - -\n",
+    "TX 1.4 storage - 0 0 committed - 1 acked\n",
+    "TX 1.5 cross 1 - 2 committed 2 - acked\n",
+    "CUT 2 1\n",
 ];
 
 // Refused statements that take no snapshot, a row that is written and gone, rows that stay as they are, a transaction open at the end.
@@ -182,16 +199,23 @@ const ENDINGS_TEXT: &[&str] = &[
     "1: COUNT 0\n",
     "1: OK 1.7\n",
     "1: COUNT 1\n",
+    "ACK 1.1\n",
+    "ACK 1.3\n",
+    "ACK 1.4\n",
+    "ACK 1.5\n",
+    "ACK 1.6\n",
+    "FLUSH 0 3\n",
     "ORDER 1.1 - 1\n",
     "ORDER 1.4 - 2\n",
     "ORDER 1.5 - 3\n",
-    "TX 1.1 storage - 0 0 committed - 1 -\n",
+    "TX 1.1 storage - 0 0 committed - 1 acked\n",
     "TX 1.2 cross 0 1 1 rolledback - - -\n",
-    "TX 1.3 cross 0 - 0 committed - - -\n",
-    "TX 1.4 storage - 1 1 committed - 2 -\n",
-    "TX 1.5 storage - 2 2 committed - 3 -\n",
-    "TX 1.6 storage - 3 3 committed - - -\n",
+    "TX 1.3 cross 0 - 0 committed - - acked\n",
+    "TX 1.4 storage - 1 1 committed - 2 acked\n",
+    "TX 1.5 storage - 2 2 committed - 3 acked\n",
+    "TX 1.6 storage - 3 3 committed - - acked\n",
     "TX 1.7 cross 0 3 3 rolledback - - -\n",
+    "CUT 0 3\n",
 ];
 
 const ROOM: usize = 4096;
@@ -210,6 +234,11 @@ pub(crate) fn words(alloc: Global, texts: &[&str]) -> Result<Vec<String>, AllocE
         words.push(joined(alloc, &[*text])?)?;
     }
     Ok(words)
+}
+
+/// A disk on which every call succeeds, without files.
+pub(crate) fn empty_disk(alloc: Global) -> MemDevice {
+    MemDevice::new(alloc, Vec::new(alloc), Vec::new(alloc))
 }
 
 struct Row {
@@ -272,13 +301,13 @@ const ROWS: [Row; 11] = [
         words: &["run", "d"],
         script: &["1: COMMIT\n"],
         status: 0,
-        text: &["1: ERR notransaction\n"],
+        text: &["1: ERR notransaction\n", "FLUSH 0 0\n", "CUT 0 0\n"],
     },
     Row {
         words: &["run", "d"],
         script: &[],
         status: 0,
-        text: &[],
+        text: &["FLUSH 0 0\n", "CUT 0 0\n"],
     },
     Row {
         words: &["--help"],
@@ -295,7 +324,8 @@ fn worked_rows(rt: HostRuntime) -> Result<(), Fail> {
         let script = joined(alloc, row.script)?;
         let mut source = MemSource::new(script.as_bytes().to_vec(alloc)?, Vec::new(alloc));
         let mut sink = MemSink::new(alloc, ROOM, Vec::new(alloc))?;
-        let outcome = run_script(alloc, &words(alloc, row.words)?, &mut source, &mut sink);
+        let words = words(alloc, row.words)?;
+        let outcome = run_script(alloc, &words, &mut source, &mut sink, empty_disk(alloc));
         assert_eq!(rt; outcome.status, row.status);
         assert_eq!(rt; sink.bytes(), joined(alloc, row.text)?.as_bytes());
     }
@@ -306,8 +336,9 @@ fn first_run<S: Source, K: Sink>(
     alloc: Global,
     source: &mut S,
     sink: &mut K,
-) -> Result<Outcome, AllocError> {
-    Ok(run_script(alloc, &words(alloc, &["run", "d"])?, source, sink))
+) -> Result<Outcome<MemDevice>, AllocError> {
+    let words = words(alloc, &["run", "d"])?;
+    Ok(run_script(alloc, &words, source, sink, empty_disk(alloc)))
 }
 
 fn first_script(alloc: Global) -> Result<Vec<u8>, AllocError> {
@@ -375,11 +406,12 @@ fn ordinary_text(alloc: Global) -> Result<String, AllocError> {
             long.as_str(),
             "'\n1: ROWS 1\n",
             rows.as_str(),
-            "1: ROWS 100\nORDER 1.1 1 1\nORDER 1.3 2 -\n",
-            "TX 1.1 cross 0 0 0 committed 1 1 -\nTX 1.2 storage - 1 1 rolledback - - -\n",
-            "TX 1.3 memory 1 - 1 committed 2 - -\nTX 1.4 memory 2 - 2 committed - - -\n",
-            "TX 1.5 memory 2 - 2 committed - - -\nTX 1.6 storage - 1 1 committed - - -\n",
-            "TX 1.7 memory 2 - 2 committed - - -\n",
+            "1: ROWS 100\nACK 1.1\nACK 1.3\nACK 1.4\nACK 1.5\nACK 1.6\nACK 1.7\nFLUSH 2 1\n",
+            "ORDER 1.1 1 1\nORDER 1.3 2 -\n",
+            "TX 1.1 cross 0 0 0 committed 1 1 acked\nTX 1.2 storage - 1 1 rolledback - - -\n",
+            "TX 1.3 memory 1 - 1 committed 2 - acked\nTX 1.4 memory 2 - 2 committed - - acked\n",
+            "TX 1.5 memory 2 - 2 committed - - acked\nTX 1.6 storage - 1 1 committed - - acked\n",
+            "TX 1.7 memory 2 - 2 committed - - acked\nCUT 2 1\n",
         ],
     )
 }

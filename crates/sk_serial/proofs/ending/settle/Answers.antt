@@ -1,0 +1,31 @@
+-- One session more has ended.
+use Rattle.std.proofs.Common.{rules, ◌≡◌, refl, ◌∙◌}
+use Rattle.std.specs.Prelude.{IfErr}
+use Rattle.sk_run.proofs.Stands.{mem_stands, store_stands}
+use Rattle.sk_run.proofs.Settling.{settles_none, settles_both}
+use Rattle.sk_serial.proofs.Saves.{saves_same, grows_same, err_grows}
+use Rattle.sk_serial.proofs.ending.settle.Goals as goal
+
+pub loop-before-init : goal.loop-before-init
+loop-before-init g c = record { settles = settles_none mem_stands store_stands c.args.run; tables = refl; known = c.requires.few; disk = refl; whole = refl; saved = refl }
+
+pub returns-in_err-store-clause-halted : goal.returns-in_err-store-clause-halted
+returns-in_err-store-clause-halted g c =
+    let same : IfErr c.from_residual.result (λ h. h.disk ≡ c.loop-before.store.disk) = search rules in
+    err_grows g.D.Device.disk g.D.Device.faults (λ h. h.disk) c.from_residual.result c.args.store.disk c.loop-before.store.disk c.loop-before.invariant.disk same
+
+pub returns-in-Err-clause-halted : goal.returns-in-Err-clause-halted
+returns-in-Err-clause-halted g c = grows_same g.D.Device.disk g.D.Device.faults c.args.store.disk c.starved.result.disk (c.starved.ensures.disk ∙ c.in_ok-store.ensures.disk ∙ c.loop-before.invariant.disk)
+
+pub loop-before-preserved : goal.loop-before-preserved
+loop-before-preserved g c = record {
+  settles = settles_both mem_stands store_stands c.args.run c.loop-before.run c.in-Ok.settled c.loop-before.invariant.settles c.in-Ok.ensures.kept;
+  tables = c.in-Ok.ensures.tables ∙ c.loop-before.invariant.tables;
+  known = c.in-Ok.ensures.sessions ∙ c.loop-before.invariant.known;
+  disk = c.queue_last.ensures.disk ∙ c.in_ok-store.ensures.disk ∙ c.loop-before.invariant.disk;
+  whole = c.queue_last.ensures.open ∙ c.in_ok-store.ensures.open ∙ c.loop-before.invariant.whole;
+  saved = c.queue_last.ensures.saved ∙ c.in_ok-store.ensures.saved ∙ c.loop-before.invariant.saved;
+}
+
+pub returns-clause-saves : goal.returns-clause-saves
+returns-clause-saves g c = saves_same g.D.Device.disk g.D.Device.faults c.args.store c.loop-before.store c.loop-before.invariant.disk c.loop-before.invariant.whole

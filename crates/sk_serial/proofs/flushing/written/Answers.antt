@@ -1,0 +1,16 @@
+-- The batch was written, or nothing was, or the disk failed.
+use Rattle.std.proofs.Common.{Err, refl, sym, ap, ◌∙◌}
+use Rattle.sk_cut.specs.Batches.{same_cut}
+use Rattle.sk_durable.specs.declared.refused.Refused.TheVariants as refused
+use Rattle.sk_serial.specs.Showing.{batch_of}
+use Rattle.sk_serial.proofs.Showing.{wrote_ok, wrote_err}
+use Rattle.sk_serial.proofs.flushing.written.Goals as goal
+
+pub returns-in-Ok-clause-writes : goal.returns-in-Ok-clause-writes
+returns-in-Ok-clause-writes g c = wrote_ok g.D.Device.disk c.args.store.now c.flush.new.self (batch_of c.args.found) (same_cut c.args.found.cut c.args.store.now.cut) refl c.requires.open
+    c.in-Ok.ensures.untouched c.in-Ok.ensures.at_most c.in-Ok.ensures.written c.in-Ok.ensures.done
+
+pub returns-in-Err-Flush-clause-writes : goal.returns-in-Err-Flush-clause-writes
+returns-in-Err-Flush-clause-writes g c = wrote_err g.D.Device.disk c.args.store.now c.flush.new.self (batch_of c.args.found) c.in-Err-Flush.fault c.in-Err-Flush.ensures.at_most
+    (λ same. sym c.in-Err-Flush.field-0-is ∙ c.in-Err-Flush.ensures.equal same) (λ differs. c.in-Err-Flush.ensures.refused (λ is. differs (sym c.in-Err-Flush.field-0-is ∙ is)))
+    (λ is. c.in-Err-Flush.ensures.broken (ap Err (c.in-Err-Flush.field-0-is ∙ ap refused.Flush is))) c.in-Err-Flush.ensures.told.2
