@@ -1,11 +1,12 @@
 -- For callers: a pass after a call, and the two passes of a book that was split once.
-use Rattle.std.proofs.Common.{◌≡◌, ◌⊎◌, ℕ, zero, suc, ◌<◌, List, [], ◌∷◌, refl, sym, ap, ◌∙◌, subst, ⊎_elim, arith}
+use Rattle.std.proofs.Common.{◌≡◌, ℕ, zero, suc, ◌+◌, ◌<◌, List, [], ◌∷◌, refl, sym, ap, ◌∙◌, ⊎_elim, arith}
 use mathlib.Core.Option.{some, some-injective, some-ne-none}
 use lib.ListN.{get_elem?}
 use Rattle.sk_booked.specs.declared.view.Own.{Own}
 use Rattle.sk_booked.specs.declared.view.View.{View}
 use Rattle.sk_booked.specs.Paths.{Path}
-use Rattle.sk_booked.specs.Answers.{IsSamePass, Answered, HasPath, IsEvery}
+use Rattle.sk_booked.specs.Plays.{elder, younger}
+use Rattle.sk_booked.specs.Answers.{beginner, IsSamePass, Answered, HasPath, IsEvery}
 
 pub same_then : {V E : Type 0} (u v w : View V E) → IsSamePass u v → IsSamePass v w → IsSamePass u w
 same_then u v w a b = record { path = b.path ∙ a.path; splits = b.splits ∙ a.splits }
@@ -47,3 +48,14 @@ module _ {E : Type 0} (o u : Own E) (first : o.path ≡ []) (once : o.splits ≡
 
   pub two_are_every : IsEvery (o ∷ u ∷ [])
   two_are_every = record { first = (0, o, refl, first); others = child; once = unlike }
+
+-- The passes of a book that was split once, whatever calls they made since
+pub both_are_every : {V E : Type 0} (base : List E) (v one two w x : View V E) → v ≡ beginner base → one ≡ elder v → two ≡ younger v → IsSamePass one w → IsSamePass two x → IsEvery (w.own ∷ x.own ∷ [])
+both_are_every {V} {E} base v one two w x began old new a b =
+    let path : View V E → Path = λ u. u.own.path in
+    let splits : View V E → ℕ = λ u. u.own.splits in
+    two_are_every w.own x.own
+    (a.path ∙ (ap path old ∙ ap path began))
+    (a.splits ∙ (ap splits old ∙ ap (λ (u : View V E). u.own.splits + 1) began))
+    (b.path ∙ (ap path new ∙ ap (λ (u : View V E). u.own.splits ∷ u.own.path) began))
+    (b.splits ∙ ap splits new)

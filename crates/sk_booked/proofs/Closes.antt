@@ -1,5 +1,5 @@
 -- At the close the lock is free, and each entry is of one of the passes that were handed in.
-use Rattle.std.proofs.Common.{◌≡◌, ◌≢◌, ◌⊎◌, inl, inr, ℕ, zero, suc, ◌+◌, ◌-◌, ◌<◌, Bool, true, false, List, [], ◌∷◌, ◌++◌, map, length, take, append_assoc, get_or, Option, Some, None, refl, sym, ap, ◌∙◌, subst, ⊎_elim, arith}
+use Rattle.std.proofs.Common.{◌≡◌, ℕ, zero, suc, ◌-◌, ◌<◌, true, false, List, [], ◌∷◌, ◌++◌, map, length, take, append_assoc, Option, Some, None, refl, sym, ap, ◌∙◌, subst, arith}
 use Rattle.std.proofs.lemmas.List.{append-nil}
 use mathlib.Core.List.{map-append}
 use mathlib.Core.Logic.{dite}
@@ -14,11 +14,11 @@ use Rattle.sk_booked.specs.declared.book.BookPass.{BookPass}
 use Rattle.sk_booked.specs.declared.view.Entry.{Entry}
 use Rattle.sk_booked.specs.declared.view.Own.{Own}
 use Rattle.sk_booked.specs.declared.view.View.{View}
-use Rattle.sk_booked.specs.Paths.{Path, Born, Each, items_of}
+use Rattle.sk_booked.specs.Paths.{Path, Born, Each}
 use Rattle.sk_booked.specs.Kept.{is_busy, OwnFits, AtHome, IsHeld, Kept}
 use Rattle.sk_booked.specs.Plays.{gathered}
 use Rattle.sk_booked.specs.Of.{own_of}
-use Rattle.sk_booked.specs.Answers.{HasPath, IsOfOne, IsEvery, IsIn, Whole}
+use Rattle.sk_booked.specs.Answers.{HasPath, IsOfOne, IsEvery, Whole}
 use Rattle.sk_booked.proofs.Entries.{each-map, each-snoc}
 
 each-at : {A : Type 0} (P : A → Type 0) (xs : List A) (i : ℕ) (x : A) → Each P xs → get_elem? xs i ≡ some x → P x

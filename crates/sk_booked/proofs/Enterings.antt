@@ -1,5 +1,5 @@
 -- What an applied call enters into a journal, and what is kept of the table with which an engine was made.
-use Rattle.std.specs.Prelude.{◌≡◌, ◌≢◌, ℕ, ◌≤◌, ◌<◌, ◌+◌, ◌^◌, ◌⊎◌, List, [], ◌∷◌, ◌++◌, Option, Some, None, Bool, true, false, cond, not, ◌&&◌, ◌||◌, map, length, nat_lt, nat_le}
+use Rattle.std.specs.Prelude.{◌≡◌, ℕ, ◌<◌, ◌^◌, ◌⊎◌, List, [], ◌∷◌, ◌++◌, Option, Some, None, Bool, true, false, cond, ◌&&◌, map, length, nat_lt}
 use Rattle.std.proofs.Common.{refl, sym, ap, subst, ◌∙◌, arith, inl, inr, ⊎_elim}
 use Rattle.std.proofs.lemmas.Bool.{false≢true}
 use Rattle.std.proofs.lemmas.List.{append-nil, length-append}
@@ -11,26 +11,25 @@ use Rattle.sk_rows.specs.declared.value.Value.{Value}
 use Rattle.sk_model.specs.declared.label.Label.{Label}
 use Rattle.sk_model.specs.declared.call.EngineCall.{EngineCall}
 use Rattle.sk_model.specs.declared.call.EngineCall.TheVariants as call
-use Rattle.sk_model.specs.declared.call.EngineFault.{EngineFault}
 use Rattle.sk_model.specs.declared.call.EngineFault.TheVariants as fault
 use Rattle.sk_model.specs.declared.call.EngineReply.{EngineReply}
 use Rattle.sk_model.specs.declared.call.EngineReply.TheVariants.{Done, Found, Rows, Number, Commits, Fault}
 use Rattle.sk_model.specs.declared.call.Entry.{Entry}
 use Rattle.sk_model.specs.Database.{RowOf, KeyedRows}
 use Rattle.sk_model.specs.Engine.{EngineTable, VersionState, Open, Closed, Stamped, Dropped, Version, is_stamped, is_of, snapshot_of, write_at}
-use Rattle.sk_model.specs.EngineReplies.{busy_or, past_of, past_or, conflict_or, is_rival, last_in, answer_of, got, scanned, put_answer}
-use Rattle.sk_model.specs.EngineConditions.{may, empty_of}
-use Rattle.sk_model.specs.Legal.{step, due, touches, may_fail, after_entries, Legal, IsReply}
+use Rattle.sk_model.specs.EngineReplies.{busy_or, past_of, past_or, conflict_or, is_rival, last_in, answer_of}
+use Rattle.sk_model.specs.EngineConditions.{may}
+use Rattle.sk_model.specs.Legal.{step, due, touches, may_fail, after_entries, Legal}
 use Rattle.sk_model.specs.Resembling.{Resembles}
 use Rattle.sk_model.specs.Journal.{most_entries}
 use Rattle.sk_chain.specs.declared.noted.Noted.{Noted}
-use Rattle.sk_chain.specs.Promise.{entry_of, refused}
+use Rattle.sk_chain.specs.Promise.{entry_of}
 use Rattle.sk_chain.specs.Runs.{entered_by}
-use Rattle.sk_chain.specs.Noting.{Notes, engine_of, journal_of, noted_stands}
-use Rattle.sk_chain.specs.Applying.{IsInUse, entered_reply, takes_memory, may_want, Answers, Follows, Applies, IsLegalFrom}
+use Rattle.sk_chain.specs.Noting.{engine_of, journal_of, noted_stands}
+use Rattle.sk_chain.specs.Applying.{IsInUse, entered_reply, may_want, Answers, Follows, Applies}
 use Rattle.sk_chain.proofs.Applied.{applied_stays_legal}
 use Rattle.sk_booked.specs.Writing.{Writes}
-use Rattle.sk_booked.specs.Engines.{pair_of, pairs_of, MadeWith, Descends, Gives, Enters, Leaves}
+use Rattle.sk_booked.specs.Engines.{pair_of, pairs_of, MadeWith, Descends, Enters, Leaves}
 
 cond_both : {X : Type 0} (b : Bool) (x y : X) (P : X → Type 0) → P x → P y → P (cond b x y)
 cond_both true x y P p q = p

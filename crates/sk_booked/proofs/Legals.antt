@@ -1,15 +1,12 @@
 -- The journal of an engine that came through passes.
-use Rattle.std.specs.Prelude.{◌≡◌, ℕ, List, [], ◌++◌, Bool, true, map}
-use Rattle.std.proofs.Common.{sym, ap, subst, ◌∙◌, refl}
-use Rattle.sk_model.specs.declared.call.EngineCall.{EngineCall}
-use Rattle.sk_model.specs.declared.call.EngineReply.{EngineReply}
+use Rattle.std.specs.Prelude.{ℕ, List, ◌++◌, Bool, map}
+use Rattle.std.proofs.Common.{sym, ap, subst, ◌∙◌}
 use Rattle.sk_model.specs.declared.call.Entry.{Entry as Called}
 use Rattle.sk_model.specs.Engine.{EngineTable}
 use Rattle.sk_model.specs.Legal.{after_entries, Legal}
-use Rattle.sk_chain.specs.declared.noted.Noted.{Noted}
-use Rattle.sk_chain.specs.Noting.{journal_of, noted_stands}
+use Rattle.sk_chain.specs.Noting.{noted_stands}
 use Rattle.sk_booked.specs.Paths.{items_of}
-use Rattle.sk_booked.specs.Engines.{pair_of, MadeWith}
+use Rattle.sk_booked.specs.Engines.{pair_of}
 use Rattle.sk_booked.specs.Laws.{NewIsMadeWith, ClosedIsLegal}
 
 pub new_is_made_with : {G : Type 0} (told : Bool) (stands : G → EngineTable → List Called → Type 0) → NewIsMadeWith told stands

@@ -1,17 +1,14 @@
 -- A call of the value in the slot, step by step.
-use Rattle.std.proofs.Common.{◌≡◌, ◌≢◌, ◌⊎◌, inl, inr, ℕ, ◌+◌, true, List, [], ◌∷◌, ◌++◌, length, Option, Some, None, refl, sym, ap, ◌∙◌, subst, ⊎_elim, arith}
+use Rattle.std.proofs.Common.{◌≡◌, ◌≢◌, inl, inr, ℕ, true, List, [], ◌∷◌, ◌++◌, length, Option, Some, None, sym, ap, ◌∙◌, ⊎_elim, arith}
 use Rattle.std.proofs.lemmas.List.{append-nil, length-append}
 use Rattle.atomic_table.specs.Table.{Me, rest}
 use Rattle.sk_booked.specs.declared.journaled.Journaled.{Ghosts}
-use Rattle.sk_booked.specs.declared.view.Entry.{Entry}
-use Rattle.sk_booked.specs.declared.view.Stage.{Stage}
-use Rattle.sk_booked.specs.declared.view.Stage.TheVariants.{Idle, Opening, Holding}
+use Rattle.sk_booked.specs.declared.view.Stage.TheVariants.{Holding}
 use Rattle.sk_booked.specs.declared.view.View.{View}
 use Rattle.sk_booked.specs.Writing.{Writes}
-use Rattle.sk_booked.specs.Paths.{items_of, items_by}
-use Rattle.sk_booked.specs.Kept.{is_busy}
-use Rattle.sk_booked.specs.Plays.{at_stage, with_own, with_seen, with_item, Took}
-use Rattle.sk_booked.specs.Answers.{IsHolding, Tells, Answered, Made}
+use Rattle.sk_booked.specs.Paths.{items_of}
+use Rattle.sk_booked.specs.Plays.{at_stage, with_own, with_item}
+use Rattle.sk_booked.specs.Answers.{IsHolding, Made}
 use Rattle.sk_booked.proofs.Entries.{items_of-snoc}
 
 abbrev value_in : {V : Type 0} → V → List (ℕ × Option V) → V

@@ -1,5 +1,5 @@
 -- The first pass, a split and a join keep the rule.
-use Rattle.std.proofs.Common.{◌≡◌, ◌≢◌, ◌⊎◌, inl, inr, ℕ, zero, suc, ◌+◌, ◌<◌, ◌≤◌, Bool, true, false, ◌==◌, eq-eqb, ne_eqb, List, [], ◌∷◌, ◌++◌, length, length-set, set, Option, Some, None, refl, sym, ap, ◌∙◌, subst, ⊎_elim, arith}
+use Rattle.std.proofs.Common.{◌≡◌, ◌≢◌, ◌⊎◌, inl, inr, ℕ, zero, suc, ◌+◌, ◌≤◌, Bool, true, false, ◌==◌, eq-eqb, ne_eqb, List, [], ◌∷◌, ◌++◌, length, length-set, set, Option, None, refl, sym, ap, ◌∙◌, subst, ⊎_elim, arith}
 use Rattle.std.proofs.lemmas.List.{append-nil}
 use mathlib.Core.Option.{some, some-injective, some-ne-none}
 use lib.ListN.{get_elem?}
@@ -10,10 +10,10 @@ use Rattle.sk_booked.specs.declared.view.Own.{Own}
 use Rattle.sk_booked.specs.declared.view.Stage.{Stage}
 use Rattle.sk_booked.specs.declared.view.Stage.TheVariants.{Idle, Opening, Holding}
 use Rattle.sk_booked.specs.declared.view.View.{View}
-use Rattle.sk_booked.specs.Paths.{Path, same_path, Born, Each, put_if, items_by, items_of}
-use Rattle.sk_booked.specs.Kept.{is_busy, IsPlain, Moment, OwnFits, IsWriter, StageFits, LiveFits, Fits, AtHome, IsHeld, Kept, newborn}
+use Rattle.sk_booked.specs.Paths.{Path, same_path, Born, Each, put_if, items_by}
+use Rattle.sk_booked.specs.Kept.{is_busy, Moment, OwnFits, StageFits, LiveFits, Fits, IsHeld, Kept, newborn}
 use Rattle.sk_booked.specs.Plays.{elder, younger, gathered, spent}
-use Rattle.sk_booked.proofs.Entries.{same_path-refl, same_path-false, begins-refl, items_by-append, each-map, each-none, each_set, nil_left, none_of, at_below}
+use Rattle.sk_booked.proofs.Entries.{same_path-refl, same_path-false, begins-refl, items_by-append, each-map, each-none, each_set, nil_left}
 use Rattle.sk_booked.proofs.Steps.{idle_fits}
 
 at_snoc : {A : Type 0} (l : List A) (a b : A) (j : ℕ) → get_elem? (l ++ a ∷ []) j ≡ some b → (get_elem? l j ≡ some b) ⊎ ((j ≡ length l) × (a ≡ b))

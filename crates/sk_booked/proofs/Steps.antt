@@ -1,20 +1,20 @@
 -- Each step on a word keeps the rule.
-use Rattle.std.proofs.Common.{◌≡◌, ◌≢◌, ◌⊎◌, ℕ, zero, suc, ◌+◌, ◌*◌, ◌%◌, ◌^◌, ◌<◌, ◌≤◌, Bool, true, false, eqb, eqb-true, List, [], ◌∷◌, ◌++◌, length, set, get_or, Option, Some, None, refl, sym, ap, ◌∙◌, subst, ⊎_elim, arith}
-use Rattle.std.proofs.lemmas.List.{append-nil, set-get_or, length-append}
-use mathlib.Core.Option.{some, none, some-injective, Option as Home}
+use Rattle.std.proofs.Common.{◌≡◌, ◌≢◌, ℕ, ◌+◌, ◌%◌, ◌^◌, ◌<◌, Bool, true, false, eqb, eqb-true, List, [], ◌∷◌, ◌++◌, length, set, get_or, Option, Some, None, refl, sym, ap, ◌∙◌, subst, arith}
+use Rattle.std.proofs.lemmas.List.{set-get_or, length-append}
+use mathlib.Core.Option.{some, none, Option as Home}
 use prog.Atomic.{either}
 use lib.ListN.{get_elem?}
 use Rattle.atomic_table.specs.Table.{State, Me, step, Act, keeps, takes, gives, put_back, rest, stepped, Allows, Valid, carried_after}
-use Rattle.atomic_table.proofs.Lists.{set_here, set_else, set_again}
+use Rattle.atomic_table.proofs.Lists.{set_here, set_again}
 use Rattle.sk_booked.specs.declared.view.Entry.{Entry}
 use Rattle.sk_booked.specs.declared.view.Own.{Own}
 use Rattle.sk_booked.specs.declared.view.Stage.{Stage}
 use Rattle.sk_booked.specs.declared.view.Stage.TheVariants.{Idle, Opening, Holding}
 use Rattle.sk_booked.specs.declared.view.View.{View}
-use Rattle.sk_booked.specs.Paths.{Path, Born, Begins, Each, entry, items_by, items_of}
-use Rattle.sk_booked.specs.Kept.{is_busy, IsPlain, Moment, OwnFits, IsWriter, StageFits, LiveFits, Fits, AtHome, IsHeld, Kept}
+use Rattle.sk_booked.specs.Paths.{Path, Born, entry, items_by, items_of}
+use Rattle.sk_booked.specs.Kept.{is_busy, Moment, OwnFits, IsWriter, StageFits, LiveFits, Fits, AtHome, Kept}
 use Rattle.sk_booked.specs.Plays.{either_way, with_seen, with_item, at_stage, with_own, Took, Locks, Opens, Counts, Frees}
-use Rattle.sk_booked.proofs.Entries.{begins-is, begins-append, items_by-append, items_by-own, items_by-other, no_others, items_of-snoc, each-snoc, each-map, each-none, each_set, at_below, none_of}
+use Rattle.sk_booked.proofs.Entries.{begins-is, begins-append, items_by-own, items_by-other, no_others, items_of-snoc, each-snoc, each-map, each-none, each_set, at_below}
 
 -- the same log and passes, and another word of the lock
 abbrev pub at_lock : {V E : Type 0} → Moment V E → ℕ → ℕ → List (Home (Option V)) → Moment V E

@@ -1,12 +1,12 @@
 -- What a step tells a pass.
-use Rattle.std.specs.Prelude.{◌≡◌, ◌≢◌, ℕ, ◌+◌, Bool, true, false, ◌==◌, List, [], ◌∷◌, ◌++◌, Option, Some, None}
+use Rattle.std.specs.Prelude.{◌≡◌, ℕ, ◌+◌, Bool, true, false, ◌==◌, List, [], ◌∷◌, ◌++◌, Option, Some, None}
 use Rattle.atomic_table.specs.Table.{Me, Step}
 use Rattle.sk_booked.specs.declared.view.Entry.{Entry}
 use Rattle.sk_booked.specs.declared.view.Own.{Own}
 use Rattle.sk_booked.specs.declared.view.Stage.{Stage}
 use Rattle.sk_booked.specs.declared.view.Stage.TheVariants.{Idle, Opening, Holding}
 use Rattle.sk_booked.specs.declared.view.View.{View}
-use Rattle.sk_booked.specs.Paths.{Path, entry, items_by, items_of}
+use Rattle.sk_booked.specs.Paths.{entry, items_by, items_of}
 use Rattle.sk_booked.specs.Kept.{own_at, view_of}
 
 abbrev pub either_way : Bool → Type 0 → Type 0 → Type 0

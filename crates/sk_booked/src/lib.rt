@@ -12,3 +12,6 @@ mod view;
 pub use book::{BookPass, Booked};
 pub use journaled::Journaled;
 pub use laws::{closed_is_legal, new_is_made_with};
+
+#[cfg(test)]
+mod tests;

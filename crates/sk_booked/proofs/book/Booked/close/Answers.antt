@@ -1,4 +1,4 @@
-use Rattle.std.proofs.Common.{◌≡◌, ◌∙◌, sym, ap, List, [], ◌∷◌, ◌++◌, map, arith}
+use Rattle.std.proofs.Common.{◌≡◌, ◌∙◌, sym, ap, [], ◌∷◌, ◌++◌, map, arith}
 use Rattle.sk_booked.specs.Kept.{is_busy}
 use Rattle.sk_booked.specs.Of.{own_of}
 use Rattle.sk_booked.specs.Answers.{Whole}

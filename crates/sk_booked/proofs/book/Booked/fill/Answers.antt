@@ -1,4 +1,4 @@
-use Rattle.std.proofs.Common.{arith, rules}
+use Rattle.std.proofs.Common.{arith}
 use Rattle.sk_booked.proofs.Steps.{opens}
 use Rattle.sk_booked.proofs.Makings.{filled}
 use Rattle.sk_booked.proofs.book.Booked.fill.Goals as goal

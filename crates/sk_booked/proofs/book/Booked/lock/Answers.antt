@@ -1,4 +1,4 @@
-use Rattle.std.proofs.Common.{ap, ◌∙◌, rules, arith}
+use Rattle.std.proofs.Common.{ap, ◌∙◌, arith}
 use Rattle.sk_booked.specs.Kept.{is_busy}
 use Rattle.sk_booked.proofs.Entries.{none_of}
 use Rattle.sk_booked.proofs.Steps.{locks}

@@ -1,7 +1,7 @@
 use Rattle.std.proofs.Common.{sym, ◌∙◌, ◌≡◌, ◌<◌, ◌^◌, subst, length, arith}
 use Rattle.sk_booked.specs.Answers.{IsHolding, Made}
 use Rattle.sk_booked.proofs.Steps.{counts}
-use Rattle.sk_booked.proofs.Makings.{Exchanged, taken_is, slot_there, exchanged, now_live, now_alone, now_holding, now_slot, now_longer, made_none, made_entry}
+use Rattle.sk_booked.proofs.Makings.{Exchanged, taken_is, slot_there, exchanged, now_live, now_alone, now_holding, now_slot, now_longer, made_entry}
 use Rattle.sk_booked.proofs.book.Booked.make.Goals as goal
 
 pub exchange-requires : goal.exchange-requires

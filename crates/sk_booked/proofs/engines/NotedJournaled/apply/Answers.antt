@@ -1,6 +1,4 @@
-use Rattle.std.proofs.Common.{◌<◌, length, le_trans, arith}
-use Rattle.sk_model.specs.Journal.{most_entries}
-use Rattle.sk_chain.specs.Noting.{journal_of}
+use Rattle.std.proofs.Common.{le_trans}
 use Rattle.sk_booked.proofs.Enterings.{few_entries, writes, descends}
 use Rattle.sk_booked.proofs.engines.NotedJournaled.apply.Goals as goal
 
