@@ -1,0 +1,19 @@
+use Rattle.std.proofs.Common.{◌≡◌, ◌≤◌, refl, sym, ap, subst, rules, le_refl}
+use Rattle.sk_clock.specs.Steps.{AnyStep, FindsMem}
+use Rattle.sk_clock.specs.declared.view.WordStep.TheVariants.{Load}
+use Rattle.sk_clock.proofs.Makings.{answers, looks_first, looks-none}
+use Rattle.sk_clock.proofs.Held.{any-last}
+use Rattle.sk_clock.proofs.Views.{loaded, mem_small}
+use Rattle.sk_clock.proofs.Clocks.{shaped_of}
+use Rattle.sk_clock.proofs.pass.Clock.begin.Goals as goal
+
+pub overflow_cast-result : goal.overflow_cast-result
+overflow_cast-result c = let e = c.load.ensures in let l : c.load.result ≤ 2147483647 = mem_small _ _ _ (shaped_of c.args.self.now c.load.new.pass e.0) e.1 in search rules
+
+pub returns-clause-answer : goal.returns-clause-answer
+returns-clause-answer c = let e = c.load.ensures in
+    answers c.args.pass.now.view c.load.new.pass.view c.load.new.pass.view (λ r. c.load.result ≡ r.mem) (looks_first _ _ _ tt e.1) (looks-none _) e.1.all_seen (loaded _ _ _ _ e.1)
+
+pub returns-clause-held : goal.returns-clause-held
+returns-clause-held c = let e = c.load.ensures in
+    subst (AnyStep (FindsMem c.load.result)) (sym (ap (λ o. o.steps) e.1.own)) (any-last (FindsMem c.load.result) c.args.pass.now.view.own.steps (Load 0 c.load.result) (refl, le_refl _))
