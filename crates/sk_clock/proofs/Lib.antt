@@ -15,3 +15,5 @@ pub mod Drawing
 pub mod Changing
 pub mod Finds
 pub mod Checking
+pub mod Choosing
+pub mod Horizons

@@ -22,7 +22,7 @@ either-hit P Q a b e h = subst (λ (t : Bool). cond t P Q) (eq-eqb a b e) h
 pub either-miss : (P Q : Type 0) (a b : ℕ) → a ≢ b → cond (eqb a b) P Q → Q
 either-miss P Q a b e h = subst (λ (t : Bool). cond t P Q) (ne_eqb a b e) h
 
-each-append : {A : Type 0} (P : A → Type 0) (xs ys : List A) → Each P xs → Each P ys → Each P (xs ++ ys)
+pub each-append : {A : Type 0} (P : A → Type 0) (xs ys : List A) → Each P xs → Each P ys → Each P (xs ++ ys)
 each-append P [] ys h k = k
 each-append P (x ∷ xs) ys h k = (h.0, each-append P xs ys h.1 k)
 
@@ -66,7 +66,7 @@ pub looks_path : (v w : View) → Looks v w → w.own.path ≡ v.own.path
 looks_path v w l = ap (λ (o : Own). o.path) l.own
 
 -- an answer that changes nothing
-pub answers : (v place w : View) (Answer : Regs → Type 0) → Looks v place → Looks place w → steps_by w.own.path w.seen ≡ w.own.steps → Answer (now place) → At v Answer None w
+unfoldable pub answers : (v place w : View) (Answer : Regs → Type 0) → Looks v place → Looks place w → steps_by w.own.path w.seen ≡ w.own.steps → Answer (now place) → At v Answer None w
 answers v place w Answer l m own a = let all = looks_then v place w l m in record {
   place = place.seen;
   since = l.seen;
@@ -80,7 +80,7 @@ answers v place w Answer l m own a = let all = looks_then v place w l m in recor
 }
 
 -- an answer that comes with a change
-pub makes : (v u w : View) (Answer : Regs → Type 0) (e : Event) → Looks v u → (h : Extends u (Change e) w) → Answer (cells u (u.seen ++ h.between)).regs → At v Answer (Some e) w
+unfoldable pub makes : (v u w : View) (Answer : Regs → Type 0) (e : Event) → Looks v u → (h : Extends u (Change e) w) → Answer (cells u (u.seen ++ h.between)).regs → At v Answer (Some e) w
 makes v u w Answer e l h a = record {
   place = u.seen ++ h.between;
   since = begins-append v.seen u.seen h.between l.seen;

@@ -6,3 +6,5 @@ pub mod Held
 pub mod Of
 pub mod Walks
 pub mod Answers
+pub mod Selections
+pub mod Cuts

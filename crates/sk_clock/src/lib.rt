@@ -3,9 +3,11 @@
 
 mod appending;
 mod counters;
+mod cutting;
 mod meeting;
 mod opening;
 mod pass;
+mod selecting;
 mod view;
 mod walks;
 mod words;
