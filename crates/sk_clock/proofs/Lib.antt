@@ -17,3 +17,4 @@ pub mod Finds
 pub mod Checking
 pub mod Choosing
 pub mod Horizons
+pub mod Ends

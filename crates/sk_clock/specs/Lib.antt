@@ -8,3 +8,4 @@ pub mod Walks
 pub mod Answers
 pub mod Selections
 pub mod Cuts
+pub mod Closes

@@ -2,6 +2,7 @@
 #![tactic(auto)]
 
 mod appending;
+mod closing;
 mod counters;
 mod cutting;
 mod meeting;
@@ -12,6 +13,7 @@ mod view;
 mod walks;
 mod words;
 
+pub use closing::Closed;
 pub use pass::{Clock, Pass};
 pub use sk_weave::{CutFound, DrawFault, Event, Passed, Point, Recycled, Selected};
 pub use view::{Entry, Own, Rule, Start, View, WordStep};
