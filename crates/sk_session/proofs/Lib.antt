@@ -34,6 +34,8 @@ pub mod Conversed
 -- the facts of all transactions
 pub mod Changed
 pub mod Wished
+-- the records of transactions that are over
+pub mod Over
 -- what was printed
 pub mod Used
 pub mod Lines

@@ -10,3 +10,4 @@ pub mod SoFar
 pub mod Facts
 pub mod Printed
 pub mod Heard
+pub mod Over
