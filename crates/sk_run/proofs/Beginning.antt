@@ -29,6 +29,7 @@ use Rattle.sk_kept.proofs.Beginnings.{first_is_run}
 use Rattle.sk_run.specs.Told.{AreTold}
 use Rattle.sk_run.specs.Kept.{HasKept}
 use Rattle.sk_run.specs.State.{RunState}
+use Rattle.sk_run.specs.Over.{HaveSome}
 
 less_differ : (m k n : ℕ) → m < k → Each (λ i. (m == i) ≡ false) (range_with_len k n)
 less_differ m k zero h = tt
@@ -45,6 +46,11 @@ players_are k (suc n) = ap (λ (ss : List Session). fresh k ∷ ss) (players_are
 all_between : (k n : ℕ) → Each (λ (p : Player). IsBetween p.session.at) (map new_player (range_with_len k n))
 all_between k zero = tt
 all_between k (suc n) = (tt, all_between (k + 1) n)
+
+-- no transaction is over yet
+all_fresh : (k n : ℕ) → HaveSome (map fresh (range_with_len k n))
+all_fresh k zero = tt
+all_fresh k (suc n) = (([], refl), all_fresh (k + 1) n)
 
 all_told : (k n : ℕ) → AreTold k [] (map fresh (range_with_len k n))
 all_told k zero = tt
@@ -69,6 +75,7 @@ module _ (mem : MemEngine → EngineTable → List Entry → Type 0) (store : St
     sessions_are = sessions ∙ players_are 1 n;
     run = first_is_run x.catalog start (first_common x.catalog rows partitions size start) (range_with_len 1 n) (record { common = stood.common; journals = λ name. refl; points = refl; mem = refl; store = refl }) (numbers_differ 1 n);
     between = all_between 1 n;
+    over = subst HaveSome (sym sessions) (all_fresh 1 n);
     told = subst (AreTold 1 []) (sym sessions) (all_told 1 n);
     short = tt;
     flushed = tt;

@@ -31,6 +31,7 @@ use Rattle.sk_recorded.specs.Flushes.{Flush, AllFlush}
 use Rattle.sk_recorded.proofs.Grown.{grows_none, grows_more, flush_calls_grow, cuts_grow}
 use Rattle.sk_run.specs.Told.{RunLine, AreTold}
 use Rattle.sk_run.specs.State.{RunState}
+use Rattle.sk_run.specs.Over.{HaveSome}
 use Rattle.sk_run.specs.Kept.{Beginning, HasKept, IsKept}
 use Rattle.sk_run.specs.Flushing.{DriftsTo, Drifts, Gives, KeepsStill}
 use Rattle.sk_run.proofs.Going.{begins_still, flushes_still}
@@ -144,6 +145,7 @@ module _ (mem : MemEngine → EngineTable → List Entry → Type 0) (store : St
     sessions_are = sessions ∙ k.sessions_are;
     run = subst (λ (tables : List Table). IsRun tables b.first (k.points ++ g.more) g.common k.players) (sym catalog) g.run;
     between = k.between;
+    over = subst HaveSome (sym sessions) k.over;
     told = subst (AreTold 1 lines) (sym sessions) k.told;
     short = k.short;
     flushed = flushed;

@@ -45,6 +45,8 @@ use Rattle.sk_run.specs.State.{RunState}
 use Rattle.sk_run.specs.Kept.{Beginning, HasKept, IsKept}
 use Rattle.sk_run.specs.Ended.{AreSteps, joined, ShowPrefixes, CutsAreAmong, HasEnded}
 use Rattle.sk_run.specs.declared.ended.Ended.{Ended}
+use Rattle.sk_run.specs.Numbered.{AreByRecords}
+use Rattle.sk_run.proofs.Numbered.{numbered}
 use Rattle.sk_run.proofs.Showing.{show_prefixes, cuts_among}
 use Rattle.sk_run.proofs.Lines.{lines_short, prints_short, records_short}
 
@@ -184,6 +186,7 @@ module _ (mem : MemEngine → EngineTable → List Entry → Type 0) (store : St
         one = subst (OneDatabase x.catalog b.rows y.order y.places) (sym by.records_are)
             (subst (λ ps. OneDatabase x.catalog b.rows y.order ps (records_in play)) at
             (subst (λ cs. OneDatabase x.catalog b.rows cs (map (place_of run) (traces_in play).transactions) (records_in play)) (sym order) one.1));
+        numbered = subst (λ cs. AreByRecords cs y.records) (sym order) (subst (AreByRecords (order_of run)) (sym by.records_are) (numbered play one.0));
         steps = steps;
         are_steps = are_steps;
         parts = parts;

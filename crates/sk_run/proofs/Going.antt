@@ -28,6 +28,7 @@ use Rattle.sk_session.specs.declared.session.Session.{Session}
 use Rattle.sk_session.specs.EachTalk.{IsBetween}
 use Rattle.sk_session.specs.Conversing.{Exchange, Exchanges, Conversed, HasLeft}
 use Rattle.sk_session.specs.Printed.{LinePrints}
+use Rattle.sk_session.specs.Over.{OverStays}
 use Rattle.sk_session.specs.Common.{Common}
 use Rattle.sk_shared.specs.Shared.{Stands, Answers}
 use Rattle.sk_kept.specs.Sessions.{Player, IsRun, AnswersRight, GoesOn}
@@ -39,7 +40,9 @@ use Rattle.sk_recorded.proofs.Grown.{lines_keep_growing, leaves_keep_growing}
 use Rattle.sk_run.specs.Told.{RunLine, IsShort, AreTold}
 use Rattle.sk_run.specs.Kept.{KeepsOn}
 use Rattle.sk_run.specs.State.{RunState}
+use Rattle.sk_run.specs.Over.{HaveSome}
 use Rattle.sk_run.proofs.Lines.{line_by, told_on}
+use Rattle.sk_run.proofs.Over.{Middle, middle_of, some_on}
 
 -- ---- the number of a session stays
 
@@ -59,21 +62,6 @@ module _ {D : Type 0} (answers : D → Wish → Got → D → Type 0) (catalog :
 -- the place of a number that counts from 1
 pub is_inside : (n m : ℕ) → 1 ≤ n → n ≤ m → n - 1 < m
 is_inside n m a b = omega (arith, a, b)
-
--- the one at this place, and those before and behind it
-pub record Middle {X : Type 0} (xs : List X) (at : ℕ) : Type 0 where
-  pub before : List X
-  pub one : X
-  pub after : List X
-  pub is : xs ≡ before ++ one ∷ after
-  pub place : length before ≡ at
-
-pub middle_of : {X : Type 0} (xs : List X) (at : ℕ) → at < length xs → Middle xs at
-middle_of [] at h = absurd (omega (arith, h))
-middle_of (x ∷ xs) zero h = record { before = []; one = x; after = xs; is = refl; place = refl }
-middle_of (x ∷ xs) (suc n) h =
-    let m : Middle xs n = middle_of xs n (omega (arith, h)) in
-    record { before = x ∷ m.before; one = m.one; after = m.after; is = ap (λ ys. x ∷ ys) m.is; place = ap suc m.place }
 
 -- ---- what the engines began with
 
@@ -102,8 +90,8 @@ module _ (mem : MemEngine → EngineTable → List Entry → Type 0) (store : St
   -- the session of this number, which stands behind so many others, has answered the line
   turn_keeps : (old new : RunState) (number at : ℕ) (s : Option Statement) (speaker spoken : Session) (reply : Reply) → number ≡ at + 1 → at < length old.sessions
       → speaker ≡ get_or old.sessions at speaker → new.sessions ≡ set old.sessions at spoken → new.catalog ≡ old.catalog
-      → Goes old speaker spoken new → spoken.number ≡ speaker.number → LinePrints speaker s spoken reply → IsShort s → KeepsOn mem store old number s new reply
-  turn_keeps old new number at s speaker spoken reply counts inside is set_to same goes_on same_number prints short b lines fs k =
+      → Goes old speaker spoken new → spoken.number ≡ speaker.number → LinePrints speaker s spoken reply → OverStays speaker spoken → IsShort s → KeepsOn mem store old number s new reply
+  turn_keeps old new number at s speaker spoken reply counts inside is set_to same goes_on same_number prints over short b lines fs k =
       let m : Middle k.players at = middle_of k.players at (subst (λ n. at < n) (ap length k.sessions_are ∙ length-map k.players (λ (p : Player). p.session)) inside) in
       let split : old.sessions ≡ map (λ (p : Player). p.session) m.before ++ m.one.session ∷ map (λ (p : Player). p.session) m.after =
       k.sessions_are ∙ ap (map (λ (p : Player). p.session)) m.is ∙ map-append (λ (p : Player). p.session) m.before (m.one ∷ m.after) in
@@ -132,6 +120,8 @@ module _ (mem : MemEngine → EngineTable → List Entry → Type 0) (store : St
         sessions_are = sessions ∙ sym (map-append (λ (p : Player). p.session) m.before (spoke ∷ m.after));
         run = subst (λ catalog. IsRun catalog b.first (k.points ++ goes.0.more) goes.0.common (m.before ++ spoke ∷ m.after)) (sym same) goes.0.run;
         between = each_middle (λ (p : Player). IsBetween p.session.at) m.before spoke m.after (each_others (λ (p : Player). IsBetween p.session.at) m.before m.one m.after between) goes.1;
+        over = subst HaveSome (sym sessions)
+            (some_on (map (λ (p : Player). p.session) m.before) m.one.session spoken (map (λ (p : Player). p.session) m.after) (subst HaveSome split k.over) (subst (λ (y : Session). OverStays y spoken) (sym who) over));
         told = subst (AreTold 1 (lines ++ line_by number (s, reply) ∷ [])) (sym sessions)
             (told_on 1 number (map (λ (p : Player). p.session) m.before) m.one.session spoken (map (λ (p : Player). p.session) m.after) lines (s, reply) (counts ∙ ap (λ n. n + 1) (sym place))
             (same_number ∙ ap (λ (y : Session). y.number) (sym who))
@@ -143,17 +133,17 @@ module _ (mem : MemEngine → EngineTable → List Entry → Type 0) (store : St
   -- a line of the session
   pub line_keeps : (old new : RunState) (number at : ℕ) (s : Option Statement) (speaker spoken : Session) (reply : Reply) → number ≡ at + 1 → at < length old.sessions
       → speaker ≡ get_or old.sessions at speaker → new.sessions ≡ set old.sessions at spoken → new.catalog ≡ old.catalog
-      → Conversed (Answers mem store) old.catalog speaker old.shared s spoken new.shared reply → LinePrints speaker s spoken reply → IsShort s → KeepsOn mem store old number s new reply
-  line_keeps old new number at s speaker spoken reply counts inside is set_to same x prints short =
+      → Conversed (Answers mem store) old.catalog speaker old.shared s spoken new.shared reply → LinePrints speaker s spoken reply → OverStays speaker spoken → IsShort s → KeepsOn mem store old number s new reply
+  line_keeps old new number at s speaker spoken reply counts inside is set_to same x prints over short =
       turn_keeps old new number at s speaker spoken reply counts inside is set_to same
       (λ first points c before talks after stood run between. lines_keep_growing (Answers mem store) (Stands mem store) right old.catalog first points c before speaker talks after old.shared s spoken new.shared reply stood run between x)
-      (conversed_number (Answers mem store) old.catalog speaker old.shared s spoken new.shared reply x) prints short
+      (conversed_number (Answers mem store) old.catalog speaker old.shared s spoken new.shared reply x) prints over short
 
   -- and leaving it
   pub leave_keeps : (old new : RunState) (number at : ℕ) (speaker spoken : Session) (reply : Reply) → number ≡ at + 1 → at < length old.sessions
       → speaker ≡ get_or old.sessions at speaker → new.sessions ≡ set old.sessions at spoken → new.catalog ≡ old.catalog
-      → HasLeft (Answers mem store) old.catalog speaker old.shared spoken new.shared reply → LinePrints speaker None spoken reply → KeepsOn mem store old number None new reply
-  leave_keeps old new number at speaker spoken reply counts inside is set_to same x prints =
+      → HasLeft (Answers mem store) old.catalog speaker old.shared spoken new.shared reply → LinePrints speaker None spoken reply → OverStays speaker spoken → KeepsOn mem store old number None new reply
+  leave_keeps old new number at speaker spoken reply counts inside is set_to same x prints over =
       turn_keeps old new number at None speaker spoken reply counts inside is set_to same
       (λ first points c before talks after stood run between. leaves_keep_growing (Answers mem store) (Stands mem store) right old.catalog first points c before speaker talks after old.shared spoken new.shared reply stood run between x)
-      (left_number (Answers mem store) old.catalog speaker old.shared spoken new.shared reply x) prints tt
+      (left_number (Answers mem store) old.catalog speaker old.shared spoken new.shared reply x) prints over tt

@@ -4,6 +4,8 @@ pub mod Stands
 pub mod Lines
 -- A run that begins
 pub mod Beginning
+-- The records of transactions that are over
+pub mod Over
 -- A line of one session, and leaving it
 pub mod Going
 -- What the table of refusals refuses
@@ -16,5 +18,7 @@ pub mod Drifting
 pub mod Finding
 -- Sessions that end
 pub mod Settling
+-- The commits of the list have the numbers of their records
+pub mod Numbered
 -- What a run hands out
 pub mod Ending

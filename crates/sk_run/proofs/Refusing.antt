@@ -22,7 +22,7 @@ use Rattle.sk_run.specs.Told.{RunLine, lines_of, AreTold, AreRefused, ObeyTable}
 use Rattle.sk_run.specs.State.{RunState}
 use Rattle.sk_run.specs.Kept.{RefusesOn}
 use Rattle.sk_run.proofs.Lines.{line_by, own_line, other_line, k_is}
-use Rattle.sk_run.proofs.Going.{Middle, middle_of}
+use Rattle.sk_run.proofs.Over.{Middle, middle_of}
 
 -- ---- no line yet
 

@@ -21,6 +21,7 @@ use Rattle.sk_recorded.specs.Flushes.{Flush, last_cut, written}
 use Rattle.sk_run.specs.Told.{RunLine, AreSaid}
 use Rattle.sk_run.specs.State.{RunState}
 use Rattle.sk_run.specs.Kept.{Beginning, HasKept}
+use Rattle.sk_run.specs.Numbered.{AreByRecords}
 use Rattle.sk_run.specs.declared.ended.Ended.{Ended}
 
 -- no statements: what a session does as it is left
@@ -43,7 +44,7 @@ CutsAreAmong b fs points = (front back : List Flush) → fs ≡ front ++ back �
 
 -- A run over these tables that began so, was told these lines with these flushes between them, and was then left, has this to hand out: its
 -- records, journals and points are of one run of sessions, which began with these rows; the list is the one that is woven from its points and
--- its committed writers; they are of one database; the records of each session say what its lines were answered; and behind each flush a disk
+-- its committed writers; they are of one database; each commit has the numbers of the record with its label; the records of each session say what its lines were answered; and behind each flush a disk
 -- shows a prefix of the list.
 pub record HasEnded (catalog : List Table) (b : Beginning) (lines : List RunLine) (fs : List Flush) (x : Ended) : Type 0 where
   pub play : Play
@@ -56,6 +57,7 @@ pub record HasEnded (catalog : List Table) (b : Beginning) (lines : List RunLine
   pub records_are : x.records ≡ records_in play
   pub order_is : x.order ≡ order_of (run_of (traces_in play))
   pub one : OneDatabase catalog b.rows x.order x.places x.records
+  pub numbered : AreByRecords x.order x.records
   pub steps : List RunLine
   pub are_steps : AreSteps steps
   pub parts : List (List Record)

@@ -20,6 +20,7 @@ use Rattle.sk_kept.specs.Sessions.{Player, IsRun}
 use Rattle.sk_recorded.specs.Flushes.{Flush, AllFlush}
 use Rattle.sk_run.specs.Told.{RunLine, AreShort, AreTold, AreRefused}
 use Rattle.sk_run.specs.State.{RunState}
+use Rattle.sk_run.specs.Over.{HaveSome}
 
 -- the session is one of the run
 abbrev pub IsKnown : RunState → ℕ → Type 0
@@ -46,6 +47,7 @@ module _ (mem : MemEngine → EngineTable → List Entry → Type 0) (store : St
     pub sessions_are : x.sessions ≡ map (λ (p : Player). p.session) players
     pub run : IsRun x.catalog b.first points common players
     pub between : AllByRecursion (λ (p : Player). IsBetween p.session.at) players
+    pub over : HaveSome x.sessions
     pub told : AreTold 1 lines x.sessions
     pub short : AreShort lines
     pub flushed : AllFlush (b.first ∷ points) common.journals b.first fs

@@ -1,6 +1,6 @@
 //! A run of sessions on one thread.
 
-ghost use Rattle.std.specs.Prelude.{◌≡◌, ◌++◌, [], IfOk, None, length, map};
+ghost use Rattle.std.specs.Prelude.{◌≡◌, ◌++◌, [], IfOk, IfSome, None, length, map};
 ghost use Rattle.std.specs.List.{range_with_len};
 ghost use Rattle.std.specs.Option.{option_copied};
 ghost use Rattle.sk_weave.specs.RegistryLaws.{CanStart};
@@ -9,6 +9,8 @@ ghost use Rattle.sk_session.specs.Starting.{fresh, records_now};
 ghost use Rattle.sk_run.specs.Told.{IsShort, AreRefused};
 ghost use Rattle.sk_run.specs.Kept.{IsKnown, HasKept, KeepsOn, RefusesOn};
 ghost use Rattle.sk_run.specs.Ended.{joined, Settles, HandsOut, Ends};
+ghost use Rattle.sk_run.specs.Over.{IsOver, OverStay, HasAllOver, last_record};
+ghost use Rattle.sk_model.specs.declared.record.Ending.TheVariants as ending;
 
 use crate::end_fault::EndFault;
 use crate::ended::Ended;
@@ -124,6 +126,7 @@ impl Run {
         requires short { IsShort (option_copied statement) }
         ensures kept { IfOk result (λ all. KeepsOn ⟦<MemEngine as Engine>⟧.stands ⟦<StoreEngine as Engine>⟧.stands self session (option_copied statement.entry) all.0 all.1) }
         ensures refused { IfOk result (λ all. RefusesOn ⟦<MemEngine as Engine>⟧.stands ⟦<StoreEngine as Engine>⟧.stands self session (option_copied statement.entry) all.0 all.1) }
+        ensures over { IfOk result (λ all. OverStay self all.0) }
         ensures tables { IfOk result (λ all. all.0.catalog ≡ self.catalog) }
         ensures sessions { IfOk result (λ all. length all.0.sessions ≡ length self.sessions) }
     {
@@ -155,16 +158,22 @@ impl Run {
     /// The record of this session's last transaction: as it began where it is live, and else as it ended.
     pub fn last_record(&self, session: u16) -> Option<&Record>
         requires { IsKnown self.now session }
+        ensures value { option_copied result ≡ last_record self.now session }
+        // Where the transaction has committed it is over.
+        ensures over { IfSome result (λ r. r.now.ending ≡ ending.Committed → IsOver self.now r.now) }
     {
         let at = session as usize - 1;
-        let speaker = self.sessions.get(at)?;
-        speaker.records().as_slice().last()
+        match self.sessions.get(at) {
+            Some(speaker) => speaker.records().as_slice().last(),
+            None => None,
+        }
     }
 
     /// Leaves this session: a transaction that is open is rolled back. Where a commit is between two of its steps that is refused.
     fn leave(self, alloc: Global, session: u16) -> Result<(Run, Reply), Unanswered>
         requires { IsKnown self session }
         ensures kept { IfOk result (λ all. KeepsOn ⟦<MemEngine as Engine>⟧.stands ⟦<StoreEngine as Engine>⟧.stands self session None all.0 all.1) }
+        ensures over { IfOk result (λ all. OverStay self all.0) }
         ensures tables { IfOk result (λ all. all.0.catalog ≡ self.catalog) }
         ensures sessions { IfOk result (λ all. length all.0.sessions ≡ length self.sessions) }
     {
@@ -190,6 +199,7 @@ impl Run {
     pub fn settle(self, alloc: Global, session: u16) -> Result<Run, Unanswered>
         requires { IsKnown self session }
         ensures kept { IfOk result (λ run. Settles ⟦<MemEngine as Engine>⟧.stands ⟦<StoreEngine as Engine>⟧.stands self run) }
+        ensures over { IfOk result (λ run. OverStay self run) }
         ensures tables { IfOk result (λ run. run.catalog ≡ self.catalog) }
         ensures sessions { IfOk result (λ run. length run.sessions ≡ length self.sessions) }
     {
@@ -208,6 +218,7 @@ impl Run {
     /// Ends all sessions, by number.
     fn settle_all(self, alloc: Global) -> Result<Run, Unanswered>
         ensures kept { IfOk result (λ run. Settles ⟦<MemEngine as Engine>⟧.stands ⟦<StoreEngine as Engine>⟧.stands self run) }
+        ensures over { IfOk result (λ run. OverStay self run) }
         ensures tables { IfOk result (λ run. run.catalog ≡ self.catalog) }
     {
         let count = self.sessions.len();
@@ -220,7 +231,8 @@ impl Run {
 
     /// Ends all sessions, and hands out what the run has come to. It is refused for memory; and where a call that ends a session could not be answered.
     pub fn finish(self, alloc: Global) -> Result<Ended, EndFault>
-        ensures { IfOk result (λ x. Ends ⟦<MemEngine as Engine>⟧.stands ⟦<StoreEngine as Engine>⟧.stands self x) }
+        ensures ends { IfOk result (λ x. Ends ⟦<MemEngine as Engine>⟧.stands ⟦<StoreEngine as Engine>⟧.stands self x) }
+        ensures over { IfOk result (λ x. HasAllOver self x.records) }
     {
         match self.settle_all(alloc) {
             Ok(run) => run.hand_out(alloc),
@@ -230,7 +242,8 @@ impl Run {
 
     /// What the run has come to.
     pub fn hand_out(self, alloc: Global) -> Result<Ended, EndFault>
-        ensures { IfOk result (λ x. HandsOut ⟦<MemEngine as Engine>⟧.stands ⟦<StoreEngine as Engine>⟧.stands self x) }
+        ensures hands_out { IfOk result (λ x. HandsOut ⟦<MemEngine as Engine>⟧.stands ⟦<StoreEngine as Engine>⟧.stands self x) }
+        ensures over { IfOk result (λ x. HasAllOver self x.records) }
     {
         let Run {
             sessions,

@@ -23,6 +23,12 @@ use Rattle.sk_run.proofs.Refusing.{obey}
 use Rattle.sk_serial.specs.Saving.{Saved, saved_in, saved_by, saved_last}
 use Rattle.sk_serial.specs.Showing.{IsStill, HasSaved, SavesOn}
 use Rattle.sk_serial.specs.Played.{told_in, last_text, Now, SettlesOn, Closes, EndsSo}
+use Rattle.sk_run.specs.Over.{HasAllOver}
+use Rattle.sk_run.proofs.Over.{stay_same}
+use Rattle.sk_cut.specs.Acked.{Acked}
+use Rattle.sk_serial.specs.Waiting.{WaitsOn}
+use Rattle.sk_serial.specs.Acknowledged.{Acknowledged}
+use Rattle.sk_serial.proofs.Acknowledged.{waits_same, waits_on, acknowledged_at}
 use Rattle.sk_serial.proofs.Showing.{shows_still}
 
 module _ {D : Type 0} (disk : Disk D) (mem : MemEngine → EngineTable → List Entry → Type 0) (store : StoreEngine → EngineTable → List Entry → Type 0) where
@@ -51,6 +57,7 @@ module _ {D : Type 0} (disk : Disk D) (mem : MemEngine → EngineTable → List 
     flushed = None;
     is_last = tt;
     settles = settles_nothing old.run old.store;
+    waits = λ h. h;
     catalog = refl;
     printed = sym (append-nil old.text);
     is_saved = refl;
@@ -58,23 +65,24 @@ module _ {D : Type 0} (disk : Disk D) (mem : MemEngine → EngineTable → List 
   }
 
   -- the sessions ended, and a flush was made
-  pub closes_all : (old new : Now D) (settled : RunState) (between : Kept D) (note : FlushNote) (ended : Bool) → ended ≡ false → Settles mem store old.run settled → IsStill old.store between → settled.catalog ≡ old.run.catalog
-      → KeepsStill mem store settled new.run → SavesOn disk mem store settled between new.run new.store
+  pub closes_all : (old new : Now D) (settled : RunState) (between : Kept D) (note : FlushNote) (ended : Bool) → ended ≡ false → Settles mem store old.run settled → IsStill old.store between → WaitsOn old.run old.store.queued settled between.queued → settled.catalog ≡ old.run.catalog
+      → KeepsStill mem store settled new.run → SavesOn disk mem store settled between new.run new.store → new.store.queued ≡ between.queued
       → new.text ≡ old.text ++ last_text (Some note) → saved_in new.store ≡ saved_by note (saved_in old.store) → new.last ≡ old.last → Closes disk mem store old ended new
-  closes_all old new settled between note true is settles same tables still saves printed saved last = absurd (cc)
-  closes_all old new settled between note false is settles same tables still saves printed saved last = record {
+  closes_all old new settled between note true is settles same waits tables still saves queued printed saved last = absurd (cc)
+  closes_all old new settled between note false is settles same waits tables still saves queued printed saved last = record {
     flushed = Some note;
     is_last = tt;
     settles = settles_flushed old.run settled new.run old.store between new.store (settles_still old.run settled old.store between settles same) saves;
+    waits = waits_on old.run settled new.run old.store.queued between.queued new.store.queued waits (waits_same settled new.run between.queued new.store.queued (stay_same settled new.run still.sessions) queued);
     catalog = still.catalog ∙ tables;
     printed = printed;
     is_saved = saved;
     replied = last;
   }
 
-  pub ends_so : (old new : Now D) (stopped : Bool) (x : Ended) (text : List ℕ) (saved : Saved) (last : Option Reply) (device : D) (broken : Bool) → Closes disk mem store old stopped new → HandsOut mem store new.run x
-      → text ≡ new.text → saved ≡ saved_in new.store → last ≡ new.last → device ≡ new.store.disk → broken ≡ new.store.broken → EndsSo disk mem store old stopped x text saved last device broken
-  ends_so old new stopped x text saved last device broken closes hands printed is_saved replied same whole catalog b begun came h =
+  pub ends_so : (old new : Now D) (stopped : Bool) (x : Ended) (text : List ℕ) (saved : Saved) (last : Option Reply) (device : D) (broken : Bool) → Closes disk mem store old stopped new → HandsOut mem store new.run x → HasAllOver new.run x.records
+      → Acked new.store.queued new.store.receipts new.store.cut → text ≡ new.text → saved ≡ saved_in new.store → last ≡ new.last → device ≡ new.store.disk → broken ≡ new.store.broken → EndsSo disk mem store old stopped x text saved last device broken
+  ends_so old new stopped x text saved last device broken closes hands has acked printed is_saved replied same whole catalog b begun came h =
       let t : (steps : List RunLine) × AreSteps steps × HasSaved disk mem store b begun (told_in came ++ steps) new.run new.store = closes.settles b begun (told_in came) h.saved in
       let fs : List Flush = t.2.flushes ++ t.2.tried in
       let ended : HasEnded catalog b (told_in came) fs x = subst (λ (c : List Table). HasEnded c b (told_in came) fs x) (closes.catalog ∙ h.tables) (hands b (told_in came) t.0 fs t.1 t.2.has_kept) in (
@@ -95,4 +103,6 @@ module _ {D : Type 0} (disk : Disk D) (mem : MemEngine → EngineTable → List 
           prefixes = ended.shows;
           cuts = ended.cuts;
         },
+        subst (λ (s : Saved). Acknowledged x.records x.order s.receipts s.cut) (sym is_saved)
+            (acknowledged_at new.run x.records x.order new.store.queued new.store.receipts new.store.cut has ended.numbered (closes.waits h.waits) acked),
       )

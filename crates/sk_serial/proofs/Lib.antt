@@ -2,6 +2,8 @@
 pub mod Came
 pub mod Plays
 pub mod Closing
+-- who was told
+pub mod Acknowledged
 -- the store
 pub mod Showing
 pub mod Prefixes

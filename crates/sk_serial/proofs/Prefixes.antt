@@ -22,7 +22,7 @@ use Rattle.sk_recover.specs.declared.opening.Opened.{Opened}
 use Rattle.sk_run.specs.Ended.{ShowPrefixes}
 use Rattle.sk_run.specs.Flushing.{SameNumbers}
 use Rattle.sk_run.specs.declared.ended.Ended.{Ended}
-use Rattle.sk_serial.specs.Showing.{Holds, GrowsBy, IsOnDisk, ShowsPrefix, ShowsSome}
+use Rattle.sk_serial.specs.Showing.{Holds, GrowsBy, IsOnDisk, ShowsPrefix, ShowsSome, ShowsLater}
 use Rattle.sk_serial.specs.Stored.{beginning}
 use Rattle.sk_serial.proofs.Showing.{holds_none}
 
@@ -82,15 +82,19 @@ module _ (opened : Opened) (sound : IsSound opened) (law : LogsHoldTheirOwn) whe
         let f = grows is.opening is.stands s.2 in
         front_shows f.front f.back is.opening image s f.flushes_are f.holds)
 
+    abbrev Later : Image → Type 0
+    Later image = ShowsLater opened.catalog opened.rows x.order x.points cut image
+
     last_of : (o : Opening) (image : Image) → Starts o → Holds opened.cut e.flushes o image → ShowsPrefix opened.catalog opened.rows x.order cut image
     last_of o image s h = at_same opened.catalog opened.rows x.order cut (last_cut opened.cut e.flushes) image e.shows.last (prefix_of x.order (e.flushes ++ e.tried) e.flushes e.tried o image s e.prefixes refl h)
 
-    tried_of : (o : Opening) (image : Image) → Starts o → Holds opened.cut (e.flushes ++ e.tried) o image → (b : Bool) → broken ≡ b → ShowsPrefix opened.catalog opened.rows x.order cut image ⊎ ((broken ≡ true) × Shown image)
+    tried_of : (o : Opening) (image : Image) → Starts o → Holds opened.cut (e.flushes ++ e.tried) o image → (b : Bool) → broken ≡ b → ShowsPrefix opened.catalog opened.rows x.order cut image ⊎ ((broken ≡ true) × Later image)
+    unfolding front_shows
     tried_of o image s h false whole = inl (last_of o image s (subst (λ (fs : List Flush). Holds opened.cut fs o image) (ap (λ (fs : List Flush). e.flushes ++ fs) (e.shows.sure whole) ∙ append-nil e.flushes) h))
-    tried_of o image s h true failed = inr (failed, front_shows (e.flushes ++ e.tried) [] o image s (sym (append-nil (e.flushes ++ e.tried))) h)
+    tried_of o image s h true failed = inr (failed, record { some = front_shows (e.flushes ++ e.tried) [] o image s (sym (append-nil (e.flushes ++ e.tried))) h; later = e.shows.tries })
 
     -- at the end
-    pub shows_last : (image : Image) → disk.may_leave now image → ShowsPrefix opened.catalog opened.rows x.order cut image ⊎ ((broken ≡ true) × Shown image)
+    pub shows_last : (image : Image) → disk.may_leave now image → ShowsPrefix opened.catalog opened.rows x.order cut image ⊎ ((broken ≡ true) × Later image)
     shows_last image left =
         let from = e.shows.leaves tells image left in
         let is = stands from.0 from.1 in

@@ -8,7 +8,6 @@ use Rattle.sk_durable.specs.Growing.{OnlyGrows}
 use Rattle.sk_durable.proofs.Growing.{grows_on, grows_none}
 use Rattle.sk_model.specs.declared.point.Point.{Point}
 use Rattle.sk_model.specs.declared.receipt.Receipt.{Receipt}
-use Rattle.sk_cut.specs.Acked.{Acked}
 use Rattle.sk_cut.specs.Batches.{as_cut}
 use Rattle.sk_cut.specs.Flush.{AllAt}
 use Rattle.sk_serial.specs.Saving.{Grows, Saves, IsKept}
@@ -60,11 +59,9 @@ module _ {D : Type 0} (disk : Disk D) (faults : D → ℕ) where
 
   -- what is handed out of a store is kept
   pub is_kept : (old last : Kept D) (receipts : List Receipt) (cut : Point) (broken : Bool) (now : D) → Saves disk faults old last → now ≡ last.disk → receipts ≡ last.receipts → cut ≡ last.cut → broken ≡ last.broken
-      → Acked last.queued last.receipts last.cut → (last.broken ≡ false → IsTrue disk.tells → AllAt disk (as_cut last.cut) last.ends last.disk) → IsKept disk faults old receipts cut broken now
-  is_kept old last receipts cut broken now saves same told at failed acked stands = rw (same, told, at, failed) (record {
+      → (last.broken ≡ false → IsTrue disk.tells → AllAt disk (as_cut last.cut) last.ends last.disk) → IsKept disk faults old receipts cut broken now
+  is_kept old last receipts cut broken now saves same told at failed stands = rw (same, told, at, failed) (record {
     grows = saves.grows;
-    needs = last.queued;
-    acked = acked;
     stands = λ whole tells. (last.ends, stands whole tells);
     broke = saves.broke;
   })

@@ -21,6 +21,7 @@ use Rattle.sk_log.specs.declared.ends.Ends.{Ends}
 use Rattle.sk_model.specs.declared.receipt.FlushFault.{FlushFault}
 use Rattle.sk_model.specs.declared.receipt.FlushFault.TheVariants as fault
 use Rattle.sk_cut.specs.declared.pipeline.Batch.{Batch}
+use Rattle.sk_cut.specs.Acked.{IsUpTo}
 use Rattle.sk_cut.specs.Batches.{as_cut, same_cut}
 use Rattle.sk_cut.specs.Flush.{AtMostGrows, HasGrown, grown_by}
 use Rattle.sk_durable.specs.declared.refused.Refused.TheVariants as refused
@@ -62,6 +63,13 @@ cut_same p q is = rw (eq-eqb p.a q.a (ap (λ (x : Point). x.a) is), eq-eqb p.b q
 both : (x y : Bool) → (x && y) ≡ true → (x ≡ true) × (y ≡ true)
 both true y e = (refl, e)
 both false y e = absurd (cc)
+
+-- a cut of these numbers is no later
+up_to_same : (p q r : Point) → SameNumbers r q → IsUpTo p q → IsUpTo p r
+up_to_same p q r same up = (omega (arith, same.0, up.0), omega (arith, same.1, up.1))
+
+up_to_itself : (p q : Point) → SameNumbers q p → IsUpTo p q
+up_to_itself p q same = (omega (arith, same.0), omega (arith, same.1))
 
 -- so have cuts that are the same
 cut_numbers : (p q : Point) → same_cut p q ≡ true → SameNumbers p q
@@ -183,6 +191,7 @@ module _ {D : Type 0} (disk : Disk D) where
     moments = λ tells. steps_none disk (GrowsBy first []) device (λ image o stands cut. front_all first [] [] o image (holds_none first o image stands cut));
     leaves = λ tells image left. (image, left, λ o stands cut. inl (holds_none first o image stands cut));
     last = (refl, refl);
+    tries = (omega arith, omega arith);
     sure = λ e. refl;
   }
 
@@ -192,10 +201,11 @@ module _ {D : Type 0} (disk : Disk D) where
     moments = λ tells. subst (λ (d : D). Steps disk (GrowsBy first (fs ++ tried)) begun d) (sym still.disk) (s.moments tells);
     leaves = λ tells image left. s.leaves tells image (subst (λ (d : D). disk.may_leave d image) still.disk left);
     last = same_then new.cut old.cut (last_cut first fs) still.cut s.last;
+    tries = up_to_same (last_cut first (fs ++ tried)) old.cut new.cut still.cut s.tries;
     sure = λ e. s.sure (sym still.broken ∙ e);
   }
 
-  module _ (first : Point) (begun : D) (fs : List Flush) (f : Flush) (durable : Point) (found : Found) (old new : Kept D) (is : IsFlush durable found f) (a : Appends disk old (batch_of found) new) (s : Shows disk first begun fs [] old.disk old.cut old.broken) where
+  module _ (first : Point) (begun : D) (fs : List Flush) (f : Flush) (durable : Point) (found : Found) (old new : Kept D) (at : durable ≡ old.cut) (is : IsFlush durable found f) (a : Appends disk old (batch_of found) new) (s : Shows disk first begun fs [] old.disk old.cut old.broken) where
     abbrev HeldAll : Image → Image → Type 0
     HeldAll was image = (o : Opening) → OpensAs was o → o.cut ≡ as_cut first → Holds first fs o image
 
@@ -210,6 +220,9 @@ module _ {D : Type 0} (disk : Disk D) where
     cut_of : found.cut ≡ last_cut first (fs ++ f ∷ [])
     cut_of = sym is.cut ∙ sym (last_more first fs f)
 
+    cut_now : new.broken ≡ false → SameNumbers new.cut (last_cut first (fs ++ f ∷ []))
+    cut_now whole = same_then new.cut found.cut (last_cut first (fs ++ f ∷ [])) (a.cut whole) (same_numbers found.cut (last_cut first (fs ++ f ∷ [])) (sym cut_of))
+
     -- it was written
     pub shows_written : new.broken ≡ false → Shows disk first begun (fs ++ f ∷ []) [] new.disk new.cut new.broken
     shows_written whole = record {
@@ -218,7 +231,8 @@ module _ {D : Type 0} (disk : Disk D) where
           let from = a.whole whole tells image left in
           let before = held tells from.0 from.1 in
           (before.0, before.1, λ o stands cut. let h = before.2 o stands cut in inl (holds_more first fs f durable found old.ends o from.0 image is h (from.2 h.opening h.stands)));
-      last = same_then new.cut found.cut (last_cut first (fs ++ f ∷ [])) (a.cut whole) (same_numbers found.cut (last_cut first (fs ++ f ∷ [])) (sym cut_of));
+      last = cut_now whole;
+      tries = subst (λ (xs : List Flush). IsUpTo (last_cut first xs) new.cut) (sym (append-nil (fs ++ f ∷ []))) (up_to_itself (last_cut first (fs ++ f ∷ [])) new.cut (cut_now whole));
       sure = λ e. refl;
     }
 
@@ -231,6 +245,7 @@ module _ {D : Type 0} (disk : Disk D) where
           let before = held tells from.0 from.1 in
           (before.0, before.1, λ o stands cut. at_most first fs f durable found old.ends o from.0 image is (before.2 o stands cut) from.2);
       last = same_then new.cut old.cut (last_cut first fs) (a.stays failed) s.last;
+      tries = subst (λ (p : Point). IsUpTo p new.cut) cut_of (up_to_same found.cut old.cut new.cut (a.stays failed) (subst (IsUpTo found.cut) at (is.past.0, is.past.1)));
       sure = λ e. absurd (let g = failed in cc);
     }
 
@@ -250,20 +265,20 @@ module _ {D : Type 0} (disk : Disk D) where
     saves_both run mid new kept between last one two b begun lines h = two b begun lines (one b begun lines h)
 
     -- what was found was written behind the other flushes, or the disk failed meanwhile
-    saves_flush : (run new_run : RunState) (kept new_kept : Kept D) (durable : Point) (found : Found) (b : Beginning) (begun : D) (lines : List RunLine) (fs : List Flush)
+    saves_flush : (run new_run : RunState) (kept new_kept : Kept D) (durable : Point) (found : Found) → durable ≡ kept.cut → (b : Beginning) (begun : D) (lines : List RunLine) (fs : List Flush)
         → Appends disk kept (batch_of found) new_kept → Shows disk b.first begun fs [] kept.disk kept.cut kept.broken → FindsFlush mem store b lines fs durable found new_run → (broken : Bool) → new_kept.broken ≡ broken
         → HasSaved disk mem store b begun lines new_run new_kept
-    saves_flush run new_run kept new_kept durable found b begun lines fs a s finds false is = record {
+    saves_flush run new_run kept new_kept durable found at b begun lines fs a s finds false is = record {
       flushes = fs ++ finds.flush ∷ [];
       tried = [];
       has_kept = subst (λ (xs : List Flush). HasKept mem store b lines xs new_run) (sym (append-nil (fs ++ finds.flush ∷ []))) finds.kept;
-      shows = shows_written b.first begun fs finds.flush durable found kept new_kept finds.is a s is;
+      shows = shows_written b.first begun fs finds.flush durable found kept new_kept at finds.is a s is;
     }
-    saves_flush run new_run kept new_kept durable found b begun lines fs a s finds true is = record {
+    saves_flush run new_run kept new_kept durable found at b begun lines fs a s finds true is = record {
       flushes = fs;
       tried = finds.flush ∷ [];
       has_kept = finds.kept;
-      shows = shows_tried b.first begun fs finds.flush durable found kept new_kept finds.is a s is;
+      shows = shows_tried b.first begun fs finds.flush durable found kept new_kept at finds.is a s is;
     }
 
     pub saves_found : (run new_run : RunState) (kept new_kept : Kept D) (durable : Point) (found : Found) → durable ≡ kept.cut → kept.broken ≡ false → FindsBatch mem store run durable found new_run → KeepsStill mem store run new_run
@@ -272,7 +287,7 @@ module _ {D : Type 0} (disk : Disk D) where
         (λ (still : IsStill kept new_kept). saves_still run new_run kept new_kept keeps still b begun lines h)
         (λ (a : Appends disk kept (batch_of found) new_kept). ⊎_elim
         (λ (none : FindsNothing durable found). absurd (let same = cut_same found.cut kept.cut (none.cut ∙ at) in let differs = a.unlike in cc))
-        (λ (flush : FindsFlush mem store b lines h.flushes durable found new_run). saves_flush run new_run kept new_kept durable found b begun lines h.flushes a shown flush new_kept.broken refl)
+        (λ (flush : FindsFlush mem store b lines h.flushes durable found new_run). saves_flush run new_run kept new_kept durable found at b begun lines h.flushes a shown flush new_kept.broken refl)
         (finds b lines h.flushes has (same_then durable kept.cut (last_cut b.first h.flushes) (same_numbers durable kept.cut (sym at)) h.shows.last)))
         writes
       where

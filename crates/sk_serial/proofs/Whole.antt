@@ -75,8 +75,7 @@ module _ {D : Type 0} (disk : Disk D) (faults : D → ℕ) where
           prefixes = λ tells. shows_prefixes opened starts.has_opened.sound law disk begun s.ended s.disk s.cut s.broken (starts.has_opened.stands tells) all.1 tells;
           at_end = λ tells. shows_last opened starts.has_opened.sound law disk begun s.ended s.disk s.cut s.broken (starts.has_opened.stands tells) all.1 tells;
           grows = subst (λ (d : D). Grows disk faults d s.disk) is (grows_then disk faults first.disk last.disk s.disk saves.grows kept.grows);
-          needs = kept.needs;
-          acked = kept.acked;
+          acked = all.2;
           stands = kept.stands;
           broke = broke_from was begun s.disk first last s.broken starts.has_opened.later is unbroken saves kept.broke kept.grows.later;
         })

@@ -1,5 +1,7 @@
 pub mod Flushed
 pub mod Saving
+pub mod Waiting
+pub mod Acknowledged
 pub mod Showing
 pub mod Summary
 pub mod Played

@@ -26,6 +26,8 @@ use Rattle.sk_text.specs.Text.{reply_lines, flush_text, report}
 use Rattle.sk_serial.specs.Flushed.{is_broken}
 use Rattle.sk_serial.specs.Saving.{Saved, saved_in, saved_first, saved_by, saved_last}
 use Rattle.sk_serial.specs.Showing.{HasSaved, IsOnDisk}
+use Rattle.sk_serial.specs.Waiting.{AreOver, WaitsOn}
+use Rattle.sk_serial.specs.Acknowledged.{Acknowledged}
 use Rattle.sk_serial.specs.Summary.{summary}
 
 -- the tables of a script
@@ -167,6 +169,7 @@ module _ {D : Type 0} (disk : Disk D) (mem : MemEngine → EngineTable → List 
   -- text of what came
   pub record HasPlayed (catalog : List Table) (b : Beginning) (begun : D) (came : List Came) (n : Now D) : Type 0 where
     pub saved : HasSaved disk mem store b begun (told_in came) n.run n.store
+    pub waits : AreOver n.run n.store.queued
     pub tables : n.run.catalog ≡ catalog
     pub sessions : length n.run.sessions ≡ most_sessions
     pub refused : AreRefused catalog 1 (told_in came) n.run.sessions
@@ -217,12 +220,13 @@ module _ {D : Type 0} (disk : Disk D) (mem : MemEngine → EngineTable → List 
     pub flushed : Option FlushNote
     pub is_last : IsLast ended flushed
     pub settles : SettlesOn old.run old.store new.run new.store
+    pub waits : WaitsOn old.run old.store.queued new.run new.store.queued
     pub catalog : new.run.catalog ≡ old.run.catalog
     pub printed : new.text ≡ old.text ++ last_text flushed
     pub is_saved : saved_in new.store ≡ saved_last flushed (saved_in old.store)
     pub replied : new.last ≡ old.last
 
-  -- whatever came so far: it has ended so, and its disk shows it
+  -- whatever came so far: it has ended so, its disk shows it, and these were told
   abbrev pub EndsSo : Now D → Bool → Ended → List ℕ → Saved → Option Reply → D → Bool → Type 0
   EndsSo old stopped x text saved last device broken = (catalog : List Table) (b : Beginning) (begun : D) (came : List Came) → HasPlayed catalog b begun came old
-      → HasEnding catalog b came stopped x text saved last × IsOnDisk disk catalog b begun x device saved.cut broken
+      → HasEnding catalog b came stopped x text saved last × IsOnDisk disk catalog b begun x device saved.cut broken × Acknowledged x.records x.order saved.receipts saved.cut

@@ -5,11 +5,9 @@ use Rattle.std.specs.String.{string_bytes}
 use Rattle.std.specs.Io.KnownBytes.{Appends, Consumes, IsAtEnd}
 use Rattle.sk_outside.specs.Causes.{Rose}
 use Rattle.sk_device.specs.Disk.{Image, Disk, Steps, LeavesOnly}
-use Rattle.sk_model.specs.declared.receipt.Need.{Need}
 use Rattle.sk_codec.specs.declared.fault.What.{What}
 use Rattle.sk_log.specs.declared.ends.Ends.{Ends}
 use Rattle.sk_log.specs.Groups.{selection}
-use Rattle.sk_cut.specs.Acked.{Acked}
 use Rattle.sk_cut.specs.Batches.{as_cut}
 use Rattle.sk_cut.specs.Flush.{AllAt}
 use Rattle.sk_recover.specs.declared.opening.Opened.{Opened}
@@ -26,7 +24,8 @@ use Rattle.sk_serial.specs.declared.run_fault.RunFault.{RunFault}
 use Rattle.sk_serial.specs.declared.run_fault.RunFault.TheVariants as run_fault
 use Rattle.sk_serial.specs.Saving.{Saved, Grows}
 use Rattle.sk_serial.specs.Played.{tables_in, HasShown, printed_text}
-use Rattle.sk_serial.specs.Showing.{ShowsPrefix, ShowsSome}
+use Rattle.sk_serial.specs.Showing.{ShowsPrefix, ShowsSome, ShowsLater}
+use Rattle.sk_serial.specs.Acknowledged.{Acknowledged}
 use Rattle.sk_serial.specs.Stored.{start_of, beginning, StartsFrom, WhyNone}
 use Rattle.sk_serial.specs.Lasting.{Lasts, Lasting}
 use Rattle.sk_serial.specs.Printing.{Prints, usage_text, read_text, device_text, memory_text, damaged_text}
@@ -145,18 +144,17 @@ pub record IsFinished {D : Type 0} (shown : Shown D) (o : Outcome D) (old new : 
 module _ {D : Type 0} (disk : Disk D) (faults : D → ℕ) where
   -- The script was played on what the disk opened as: each of its lines was answered so, up to where it was cut off, and this is handed out and
   -- printed of it. Whatever a stop leaves of the disk from then on shows a prefix of the printed list, and at the end the one at the durable cut,
-  -- or where the disk failed perhaps the one of the flush that it failed. Whoever was told that a commit is durable was told once, and not too
-  -- early; and unless the disk failed, every image opens at the durable cut.
+  -- or where the disk failed perhaps the one of the flush that it failed, which is no shorter. Whoever was told that a commit is durable had
+  -- committed, was told once, and stands in that prefix; and unless the disk failed, every image opens at the durable cut.
   pub record IsPlayed (script : Script) (transfers : Option ℕ) (was : D) (ended : Ended) (saved : Saved) (text : List ℕ) (broken : Bool) (now : D) : Type 0 where
     pub opened : Opened
     pub begun : D
     pub starts : StartsFrom disk faults script (is_some transfers) was opened begun
     pub shown : HasShown opened.catalog (beginning opened) script.lines transfers ended saved text
     pub prefixes : IsTrue disk.tells → LeavesOnly disk (ShowsSome opened.catalog opened.rows ended.order ended.points) begun now
-    pub at_end : IsTrue disk.tells → (image : Image) → disk.may_leave now image → ShowsPrefix opened.catalog opened.rows ended.order saved.cut image ⊎ ((broken ≡ true) × ShowsSome opened.catalog opened.rows ended.order ended.points image)
+    pub at_end : IsTrue disk.tells → (image : Image) → disk.may_leave now image → ShowsPrefix opened.catalog opened.rows ended.order saved.cut image ⊎ ((broken ≡ true) × ShowsLater opened.catalog opened.rows ended.order ended.points saved.cut image)
     pub grows : Grows disk faults begun now
-    pub needs : List Need
-    pub acked : Acked needs saved.receipts saved.cut
+    pub acked : Acknowledged ended.records ended.order saved.receipts saved.cut
     pub stands : broken ≡ false → IsTrue disk.tells → (ends : Ends) × AllAt disk (as_cut saved.cut) ends now
     pub broke : broken ≡ true → Rose (faults was) (faults now)
 

@@ -4,9 +4,7 @@ use Rattle.sk_outside.specs.Causes.{Rose}
 use Rattle.sk_device.specs.Disk.{Disk, Steps}
 use Rattle.sk_model.specs.declared.point.Point.{Point}
 use Rattle.sk_model.specs.declared.receipt.Receipt.{Receipt}
-use Rattle.sk_model.specs.declared.receipt.Need.{Need}
 use Rattle.sk_log.specs.declared.ends.Ends.{Ends}
-use Rattle.sk_cut.specs.Acked.{Acked}
 use Rattle.sk_cut.specs.Batches.{as_cut}
 use Rattle.sk_cut.specs.Flush.{AllAt}
 use Rattle.sk_outcome.specs.declared.flush_note.FlushNote.{FlushNote}
@@ -45,11 +43,9 @@ abbrev pub saved_last : Option FlushNote → Saved → Saved
 saved_last None s = s
 saved_last (Some note) s = saved_by note s
 
--- What is kept at the end of a run whose store was this before its last flush: the store only grew, whoever was told was told once and not too
--- early, and unless the disk failed every image opens at the durable cut.
+-- What is kept at the end of a run whose store was this before its last flush: the store only grew, and unless the disk failed every image opens
+-- at the durable cut.
 pub record IsKept {D : Type 0} (disk : Disk D) (faults : D → ℕ) (old : Kept D) (receipts : List Receipt) (cut : Point) (broken : Bool) (now : D) : Type 0 where
   pub grows : Grows disk faults old.disk now
-  pub needs : List Need
-  pub acked : Acked needs receipts cut
   pub stands : broken ≡ false → IsTrue disk.tells → (ends : Ends) × AllAt disk (as_cut cut) ends now
   pub broke : broken ≡ true → (old.broken ≡ true) ⊎ Rose (faults old.disk) (faults now)

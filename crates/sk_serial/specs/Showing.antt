@@ -15,6 +15,7 @@ use Rattle.sk_linked.specs.Traces.{In}
 use Rattle.sk_log.specs.Stores.{Opening, rows_of}
 use Rattle.sk_log.specs.Growth.{OpensAs}
 use Rattle.sk_cut.specs.declared.pipeline.Batch.{Batch}
+use Rattle.sk_cut.specs.Acked.{IsUpTo}
 use Rattle.sk_cut.specs.Batches.{as_cut, same_cut}
 use Rattle.sk_cut.specs.Flush.{AtMostGrows, HasGrown}
 use Rattle.sk_durable.specs.Kept.{Kept}
@@ -54,11 +55,12 @@ abbrev pub HasGrownBy : Point → List Flush → List Flush → Image → Image 
 HasGrownBy first fs tried was image = (o : Opening) → OpensAs was o → o.cut ≡ as_cut first → Holds first fs o image ⊎ Holds first (fs ++ tried) o image
 
 -- From a disk on which a run began: at each moment an image holds a front of its flushes. What a stop now may leave holds all that were written,
--- and where the disk failed in one more perhaps that one; the durable cut is the last that was written.
+-- and where the disk failed in one more perhaps that one; the durable cut is the last that was written, and that of the one more is not below it.
 pub record Shows {D : Type 0} (disk : Disk D) (first : Point) (begun : D) (fs tried : List Flush) (now : D) (cut : Point) (broken : Bool) : Type 0 where
   pub moments : IsTrue disk.tells → Steps disk (GrowsBy first (fs ++ tried)) begun now
   pub leaves : IsTrue disk.tells → (image : Image) → disk.may_leave now image → AfterStep disk (HasGrownBy first fs tried) begun image
   pub last : SameNumbers cut (last_cut first fs)
+  pub tries : IsUpTo (last_cut first (fs ++ tried)) cut
   pub sure : broken ≡ false → tried ≡ []
 
 -- ---- a flush
@@ -115,3 +117,8 @@ pub record ShowsSome (catalog : List Table) (rows : Tables) (order : List Commit
   pub at : Point
   pub among : In at points
   pub shows : ShowsPrefix catalog rows order at image
+
+-- and that point is not below this cut
+pub record ShowsLater (catalog : List Table) (rows : Tables) (order : List Commit) (points : List Point) (cut : Point) (image : Image) : Type 0 where
+  pub some : ShowsSome catalog rows order points image
+  pub later : IsUpTo some.at cut

@@ -7,6 +7,7 @@ ghost use Rattle.sk_run.specs.Ended.{Settles};
 ghost use Rattle.sk_serial.specs.Played as spec;
 ghost use Rattle.sk_serial.specs.Running.{saved_of, HasText};
 ghost use Rattle.sk_serial.specs.Saving.{Grows, Saves, IsKept, saved_in};
+ghost use Rattle.sk_serial.specs.Waiting.{WaitsOn};
 ghost use Rattle.sk_serial.specs.declared.run_fault.RunFault.TheVariants as run_fault;
 
 use crate::flushing::flush;
@@ -53,6 +54,7 @@ fn settle<D: Device + Drop, F: Teller + Drop>(
     ensures saves { IfOk result (λ all. Saves D.disk D.faults store all.1) }
     ensures open { IfOk result (λ all. all.1.broken ≡ store.broken) }
     ensures saved { IfOk result (λ all. saved_in all.1 ≡ saved_in store) }
+    ensures waits { IfOk result (λ all. WaitsOn run store.queued all.0 all.1.queued) }
     ensures halted { IfErr result (λ h. Grows D.disk D.faults store.disk h.disk) }
     ensures starved { IfErr result (λ h. h.fault ≡ run_fault.NoMemory) }
 {

@@ -47,6 +47,7 @@ fn written<D: Device + Drop, F: Teller + Drop>(
     ensures writes { IsStill store.old store.new ⊎ Appends D.disk store.old (batch_of found) store.new }
     ensures open { IfOk result (λ note. is_broken note ≡ store.new.broken) }
     ensures saved { IfOk result (λ note. saved_in store.new ≡ saved_by note (saved_in store.old)) }
+    ensures queued { store.new.queued ≡ store.old.queued }
 {
     let Found {
         cut,
@@ -79,6 +80,7 @@ fn find_and_write<D: Device + Drop, F: Teller + Drop>(
     ensures saves { Saves D.disk D.faults store.old store.new }
     ensures open { IfOk result (λ note. is_broken note ≡ store.new.broken) }
     ensures saved { IfOk result (λ note. saved_in store.new ≡ saved_by note (saved_in store.old)) }
+    ensures queued { store.new.queued ≡ store.old.queued }
 {
     match run.find_batch(alloc, store.cut()) {
         Ok(found) => written(alloc, store, found),
@@ -102,6 +104,7 @@ pub(crate) fn flush<D: Device + Drop, F: Teller + Drop>(
     ensures saves { IfOk result (λ f. Saves D.disk D.faults store f.1) }
     ensures open { IfOk result (λ f. is_broken f.2 ≡ f.1.broken) }
     ensures saved { IfOk result (λ f. saved_in f.1 ≡ saved_by f.2 (saved_in store)) }
+    ensures queued { IfOk result (λ f. f.1.queued ≡ store.queued) }
     ensures halted { IfErr result (λ h. Grows D.disk D.faults store.disk h.disk) }
     ensures starved { IfErr result (λ h. h.fault ≡ run_fault.NoMemory) }
 {

@@ -11,8 +11,10 @@ ghost use Rattle.sk_script.specs.Texts.{says_short};
 ghost use Rattle.sk_text.specs.Text.{reply_lines, flush_text};
 ghost use Rattle.sk_run.specs.Told.{IsShort};
 ghost use Rattle.sk_run.specs.Kept.{IsKnown, KeepsOn, RefusesOn};
+ghost use Rattle.sk_run.specs.Over.{OverStay};
 ghost use Rattle.sk_serial.specs.Played as spec;
 ghost use Rattle.sk_serial.specs.Saving.{Grows, Saves, saved_in};
+ghost use Rattle.sk_serial.specs.Waiting.{needed, IsNeedOf, WaitsOn};
 ghost use Rattle.sk_serial.specs.declared.run_fault.RunFault.TheVariants as run_fault;
 
 use crate::flushing::{flush, is_broken};
@@ -45,20 +47,25 @@ pub(crate) struct Playing<D: Device + Drop, F: Teller + Drop> {
 }
 
 /// The greater of a snapshot and the number that was drawn behind it.
-fn needed(snapshot: Option<u32>, drew: Option<u32>) -> Option<u32> {
+fn needed(snapshot: Option<u32>, drew: Option<u32>) -> Option<u32>
+    ensures { result ≡ needed snapshot drew }
+{
     match (snapshot, drew) {
         (Some(snapshot), Some(drew)) => Some(snapshot.max(drew)),
-        (snapshot, _) => snapshot,
+        (None, drew) => drew,
+        (snapshot, None) => snapshot,
     }
 }
 
 /// What a committed transaction waits for.
-fn need_of(record: &Record) -> Option<Need> {
-    match record.ending {
+fn need_of(transaction: &Record) -> Option<Need>
+    ensures { IfSome result (λ need. IsNeedOf need transaction.now) }
+{
+    match transaction.ending {
         Ending::Committed => Some(Need {
-            label: record.label,
-            mem: needed(record.mem, record.drew_mem),
-            store: needed(record.store, record.drew_store),
+            label: transaction.label,
+            mem: needed(transaction.mem, transaction.drew_mem),
+            store: needed(transaction.store, transaction.drew_store),
         }),
         _ => None,
     }
@@ -75,6 +82,7 @@ pub(crate) fn queue_last<D: Device + Drop, F: Teller + Drop>(
     ensures disk { store.new.disk ≡ store.old.disk }
     ensures open { store.new.broken ≡ store.old.broken }
     ensures saved { saved_in store.new ≡ saved_in store.old }
+    ensures waits { WaitsOn run.now store.old.queued run.now store.new.queued }
 {
     if let Some(record) = run.last_record(session) {
         if let Some(need) = need_of(record) {
@@ -91,6 +99,7 @@ pub(crate) fn reserved<D: Device + Drop, F: Teller + Drop>(
     ensures disk { IfOk result (λ s. s.disk ≡ store.disk) }
     ensures open { IfOk result (λ s. s.broken ≡ store.broken) }
     ensures saved { IfOk result (λ s. saved_in s ≡ saved_in store) }
+    ensures queued { IfOk result (λ s. s.queued ≡ store.queued) }
     ensures halted { IfErr result (λ h. h.disk ≡ store.disk) }
     ensures starved { IfErr result (λ h. h.fault ≡ run_fault.NoMemory) }
 {
@@ -113,6 +122,7 @@ fn answered<D: Device + Drop, F: Teller + Drop>(
     requires short { IsShort (option_copied statement) }
     ensures kept { IfOk result (λ all. KeepsOn ⟦<MemEngine as Engine>⟧.stands ⟦<StoreEngine as Engine>⟧.stands run session (option_copied statement.entry) all.0 all.2) }
     ensures refused { IfOk result (λ all. RefusesOn ⟦<MemEngine as Engine>⟧.stands ⟦<StoreEngine as Engine>⟧.stands run session (option_copied statement.entry) all.0 all.2) }
+    ensures over { IfOk result (λ all. OverStay run all.0) }
     ensures tables { IfOk result (λ all. all.0.catalog ≡ run.catalog) }
     ensures sessions { IfOk result (λ all. length all.0.sessions ≡ length run.sessions) }
     ensures store { IfOk result (λ all. all.1 ≡ store) }

@@ -3,11 +3,12 @@ use Rattle.std.proofs.Common.{rules, ◌≡◌, refl, ◌∙◌}
 use Rattle.std.specs.Prelude.{IfErr}
 use Rattle.sk_run.proofs.Stands.{mem_stands, store_stands}
 use Rattle.sk_run.proofs.Settling.{settles_none, settles_both}
+use Rattle.sk_serial.proofs.Acknowledged.{waits_same, waits_on}
 use Rattle.sk_serial.proofs.Saves.{saves_same, grows_same, err_grows}
 use Rattle.sk_serial.proofs.ending.settle.Goals as goal
 
 pub loop-before-init : goal.loop-before-init
-loop-before-init g c = record { settles = settles_none mem_stands store_stands c.args.run; tables = refl; known = c.requires.few; disk = refl; whole = refl; saved = refl }
+loop-before-init g c = record { settles = settles_none mem_stands store_stands c.args.run; tables = refl; known = c.requires.few; disk = refl; whole = refl; saved = refl; waits = λ h. h }
 
 pub returns-in_err-store-clause-halted : goal.returns-in_err-store-clause-halted
 returns-in_err-store-clause-halted g c =
@@ -25,6 +26,9 @@ loop-before-preserved g c = record {
   disk = c.queue_last.ensures.disk ∙ c.in_ok-store.ensures.disk ∙ c.loop-before.invariant.disk;
   whole = c.queue_last.ensures.open ∙ c.in_ok-store.ensures.open ∙ c.loop-before.invariant.whole;
   saved = c.queue_last.ensures.saved ∙ c.in_ok-store.ensures.saved ∙ c.loop-before.invariant.saved;
+  waits = waits_on c.args.run c.loop-before.run c.in-Ok.settled c.args.store.queued c.loop-before.store.queued c.queue_last.new.store.queued c.loop-before.invariant.waits
+      (waits_on c.loop-before.run c.in-Ok.settled c.in-Ok.settled c.loop-before.store.queued c.in_ok-store.store.queued c.queue_last.new.store.queued
+      (waits_same c.loop-before.run c.in-Ok.settled c.loop-before.store.queued c.in_ok-store.store.queued c.in-Ok.ensures.over c.in_ok-store.ensures.queued) c.queue_last.ensures.waits);
 }
 
 pub returns-clause-saves : goal.returns-clause-saves

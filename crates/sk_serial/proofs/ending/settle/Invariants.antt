@@ -4,6 +4,7 @@ use Rattle.sk_run.specs.Ended.{Settles}
 use Rattle.sk_run.proofs.Stands.{mem_stands, store_stands}
 use Rattle.sk_script.specs.Limits.{most_sessions}
 use Rattle.sk_serial.specs.Saving.{saved_in}
+use Rattle.sk_serial.specs.Waiting.{WaitsOn}
 use Rattle.sk_serial.proofs.ending.settle.Given as goal
 
 abbrev pub invariant-loop-before : goal.invariant-loop-before
@@ -14,4 +15,5 @@ invariant-loop-before g l = record {
   disk : l.store.disk ≡ l.fn.store.disk;
   whole : l.store.broken ≡ l.fn.store.broken;
   saved : saved_in l.store ≡ saved_in l.fn.store;
+  waits : WaitsOn l.fn.run l.fn.store.queued l.run l.store.queued;
 }

@@ -9,6 +9,7 @@ use Rattle.sk_serial.specs.Saving.{saved_in}
 use Rattle.sk_serial.specs.Played.{Now, now}
 use Rattle.sk_serial.proofs.Showing.{still_of}
 use Rattle.sk_serial.proofs.Plays.{plays_said, said_next}
+use Rattle.sk_serial.proofs.Acknowledged.{waits_same, waits_on}
 use Rattle.sk_serial.proofs.Saves.{saves_same, grows_same, err_grows}
 use Rattle.sk_serial.proofs.playing.play_said.Goals as goal
 
@@ -21,7 +22,10 @@ returns-clause-played g c =
     (still_of g.D.Device.disk c.args.playing.store c.queue_last.new.store (c.queue_last.ensures.disk ∙ ap (λ (k : Kept _). k.disk) c.in_ok-run.ensures.store ∙ c.in_ok-store.ensures.disk)
     (c.queue_last.ensures.open ∙ ap (λ (k : Kept _). k.broken) c.in_ok-run.ensures.store ∙ c.in_ok-store.ensures.open)
     (c.queue_last.ensures.saved ∙ ap saved_in c.in_ok-run.ensures.store ∙ c.in_ok-store.ensures.saved))
-    (c.queue_last.ensures.saved ∙ ap saved_in c.in_ok-run.ensures.store ∙ c.in_ok-store.ensures.saved) refl)
+    (c.queue_last.ensures.saved ∙ ap saved_in c.in_ok-run.ensures.store ∙ c.in_ok-store.ensures.saved)
+    (waits_on c.args.playing.run c.in_ok-run.run' c.in_ok-run.run' c.args.playing.store.queued c.in_ok-run.store.queued c.queue_last.new.store.queued
+    (waits_same c.args.playing.run c.in_ok-run.run' c.args.playing.store.queued c.in_ok-run.store.queued c.in_ok-run.ensures.over (ap (λ (k : Kept _). k.queued) c.in_ok-run.ensures.store ∙ c.in_ok-store.ensures.queued)) c.queue_last.ensures.waits)
+    refl)
 
 pub returns-clause-saves : goal.returns-clause-saves
 returns-clause-saves g c = saves_same g.D.Device.disk g.D.Device.faults c.args.playing.store c.queue_last.new.store

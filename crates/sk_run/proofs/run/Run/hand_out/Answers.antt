@@ -13,6 +13,9 @@ use Rattle.sk_run.specs.Kept.{Beginning}
 use Rattle.sk_run.specs.Ended.{HandsOut}
 use Rattle.sk_run.specs.declared.ended.Ended.{Ended}
 use Rattle.sk_run.proofs.Stands.{mem_stands, store_stands}
+use Rattle.sk_linked.specs.Traces.{In}
+use Rattle.sk_run.specs.Over.{HasAllOver}
+use Rattle.sk_run.proofs.Over.{over_is_out}
 use Rattle.sk_run.proofs.Ending.{same_left, was_left, in_turn, ended}
 use Rattle.sk_run.proofs.run.Run.hand_out.Goals as goal
 
@@ -31,8 +34,8 @@ places-requires-clause-by_store c = subst (InTurn (λ (d : Commit). d.store)) (s
     (in_turn mem_stands store_stands _ c.into_parts-mem_journal.result c.in_ok-records.records c.in_ok-order.order c.self.invariant c.into_parts-mem_journal.ensures c.in_ok-records.ensures
     (λ (p : Play) left. c.in_ok-order.ensures p (same_left p _ _ _ _ _ _ c.as_slice.ensures c.as_slice-2.ensures left))).1
 
-pub returns : goal.returns
-returns c =
+pub returns-clause-hands_out : goal.returns-clause-hands_out
+returns-clause-hands_out c =
     let out : Ended = record {
       records = c.in_ok-records.records;
       order = c.in_ok-order.order;
@@ -46,3 +49,6 @@ returns c =
     (λ (p : Play) left. c.in_ok-order.ensures p (same_left p _ _ _ _ _ _ c.as_slice.ensures c.as_slice-2.ensures left)) refl c.in_ok-records.ensures
     (c.in_ok-places.ensures ∙ ap (λ (cs : List Commit). map (λ (r : Record). place cs r.mem r.store) c.as_slice-4.result.now) c.as_slice-3.ensures ∙ ap (map (λ (r : Record). place c.in_ok-order.order r.mem r.store)) c.as_slice-4.ensures)
     refl refl refl)
+
+pub returns-clause-over : goal.returns-clause-over
+returns-clause-over c = subst (λ (x : RunState). HasAllOver x c.in_ok-records.records) c.self.view_is (λ r o. subst (In r) (sym c.in_ok-records.ensures) (over_is_out _ r o))

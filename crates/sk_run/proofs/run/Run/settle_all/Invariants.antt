@@ -1,12 +1,14 @@
 -- So far it was told some lines more that are no statements.
 use Rattle.std.proofs.Common.{◌≡◌, length}
 use Rattle.sk_run.specs.Ended.{Settles}
+use Rattle.sk_run.specs.Over.{OverStay}
 use Rattle.sk_run.proofs.Stands.{mem_stands, store_stands}
 use Rattle.sk_run.proofs.run.Run.settle_all.Given as goal
 
 abbrev pub invariant-loop-before : goal.invariant-loop-before
 invariant-loop-before l = record {
   kept : Settles mem_stands store_stands l.fn.self l.run;
+  over : OverStay l.fn.self l.run;
   tables : l.run.catalog ≡ l.fn.self.catalog;
   sessions : length l.run.sessions ≡ length l.fn.self.sessions;
 }
