@@ -285,7 +285,8 @@ fn take<A: Abort, G: Engine + Drop>(
 
 // A row of a text of 200 bytes takes 214 bytes of a page, so 500 rows take 27 pages, and one of 250 does not fit where it stood
 // once the page is full. A transaction is dropped before it closes, another one is voided, and the last one is stamped and purged up to.
-const SWEEPS: [Sweep; 29] = [
+const SWEEPS: [Sweep; 30] = [
+    Sweep::Ask(Ask::Horizon, Said::Number(0)),
     Sweep::Ask(Ask::Open(A, 0), Said::Done),
     Sweep::PutAll(A, b'a', 200),
     Sweep::Ask(Ask::Close(A), Said::Number(0)),
