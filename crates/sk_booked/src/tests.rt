@@ -4,6 +4,8 @@ ghost use Rattle.sk_chain.specs.Applying.{IsInUse};
 ghost use Rattle.sk_booked.specs.Of.{view, own_of, IsOf};
 ghost use Rattle.sk_booked.specs.Answers.{IsSamePass, IsEvery};
 
+mod both;
+
 use super::*;
 use sk_chain::{Engine, Noted};
 use sk_mem::MemEngine;
@@ -21,18 +23,23 @@ fn name(alloc: Global, word: &[u8]) -> Result<Txt, Fail> {
     Ok(Txt::from_vec(bytes).ok().ok_or("a name")?)
 }
 
-// One table of one column.
+fn column(alloc: Global, word: &[u8]) -> Result<Column, Fail> {
+    Ok(Column {
+        name: name(alloc, word)?,
+        sort: Sort::Int,
+    })
+}
+
+// One table of a key and a number.
 fn catalog(alloc: Global, store: bool) -> Result<Catalog, Fail>
     ensures { IfOk result (λ c. length c ≡ 1) }
 {
-    let column = Column {
-        name: name(alloc, b"id")?,
-        sort: Sort::Int,
-    };
+    let mut columns = List::of_one(alloc, column(alloc, b"id")?)?;
+    columns.push(column(alloc, b"v")?)?;
     let table = Table {
         name: name(alloc, b"a")?,
         store,
-        columns: List::of_one(alloc, column)?,
+        columns,
     };
     let mut catalog = Catalog::new(alloc);
     if catalog.add(table).is_err() {
@@ -116,11 +123,13 @@ fn two_passes_leave_an_entry_each(rt: HostRuntime) -> Result<(), Fail> {
 }
 
 fn put(alloc: Global, tx: Label, key: i64) -> Result<EngineCall, NoMemory> {
+    let mut row = List::of_one(alloc, Value::Int(key))?;
+    row.push(Value::Int(0))?;
     Ok(EngineCall::Put {
         tx,
         table: 0,
         key: Value::Int(key),
-        row: Some(List::of_one(alloc, Value::Int(key))?),
+        row: Some(row),
     })
 }
 

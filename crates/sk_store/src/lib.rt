@@ -21,3 +21,6 @@ pub use laws::store_journal_is_legal;
 pub use page_vec::PageVec;
 pub use paged::PagedRows;
 pub use pages::{PageFault, Pages};
+
+#[cfg(test)]
+mod tests;
