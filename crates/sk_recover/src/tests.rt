@@ -1,7 +1,8 @@
-//! Opening over devices in memory: a new store, a store with one group, damaged files, and a store whose making was cut short.
+//! Opening over devices in memory: a new store, a store with one group, damaged files, and a store whose making or whose first flush
+//! was cut short.
 use super::*;
 use sk_device::{MemDevice, Tear, TearingDevice};
-use sk_log::What;
+use sk_log::{Ends, LogFault, What, append_anchor, append_store, open_gate};
 use sk_model::{Point, Tables};
 use sk_rows::{Catalog, Column, List, Sort, Table, Txt, Value};
 use std::alloc::Global;
@@ -263,5 +264,63 @@ fn a_store_opens_whatever_call_of_its_making_fails(rt: HostRuntime) -> Result<()
         },
     )?;
     assert!(rt; !opens_anew(&rt, alloc, none_fails)?);
+    Ok(())
+}
+
+/// Where the logs of a new store end.
+const NEW: Ends = Ends {
+    set: 0,
+    store_end: 0,
+    gate: 0,
+};
+
+/// The six calls of a flush, which are a write and a sync of the storage log, of the group behind its closed gate, and of the gate.
+fn flush(disk: &mut TearingDevice) -> Result<(), LogFault> {
+    append_store(disk, &NEW, 60, &STORE)?;
+    append_anchor(disk, &NEW, 60, &ANCHOR[1..])?;
+    open_gate(disk, &NEW)
+}
+
+/// What a stop leaves of a flush behind a new store whose call of this number fails.
+fn flush_cut_short(alloc: Global, failing: u64, tear: Tear) -> Result<MemDevice, Fail> {
+    let mut files = MemDevice::new(alloc, [failing].to_vec(alloc)?, Vec::new(alloc));
+    files.set(0, ROOT.to_vec(alloc)?);
+    files.set(2, [0].to_vec(alloc)?);
+    files.set(5, IMAGE.to_vec(alloc)?);
+    let mut disk = TearingDevice::new(alloc, files, tear)?;
+    let _ = flush(&mut disk);
+    Ok(disk.stopped(&[tear])?)
+}
+
+/// Whether the store opens with the group. Else it opens as it was, without rows.
+fn opens_with_the_group(rt: &impl Abort, alloc: Global, mut disk: MemDevice) -> Result<bool, Fail> {
+    let opened = open(alloc, &mut disk, &catalog(alloc)?, START);
+    let store = opened.ok().ok_or("a store")?;
+    assert!(rt; !store.fresh);
+    let grown = store.cut.a == 1;
+    assert_eq!(rt; store.cut.b, store.cut.a);
+    assert_eq!(rt; value(&store.rows, 0), grown.then_some(10));
+    assert_eq!(rt; value(&store.rows, 1), grown.then_some(20));
+    Ok(grown)
+}
+
+#[test]
+fn a_stop_leaves_a_group_whole_or_not_at_all(rt: HostRuntime) -> Result<(), Fail> {
+    let alloc = rt.alloc();
+    // The last two calls write and sync the gate; the seventh is none of them.
+    for failing in 1..8 {
+        for stands in 0..4 {
+            for filler in [None, Some(0), Some(1), Some(255)] {
+                let tear = Tear {
+                    stands: stands * 19,
+                    filler,
+                };
+                let is_one = stands > 0 || matches!(filler, Some(1));
+                let left = flush_cut_short(alloc, failing, tear)?;
+                let grown = opens_with_the_group(&rt, alloc, left)?;
+                assert_eq!(rt; grown, failing == 7 || failing > 4 && is_one);
+            }
+        }
+    }
     Ok(())
 }
