@@ -1,7 +1,8 @@
-//! Opening over devices in memory: a new store, a store with one group, damaged files, and a store whose making was cut short.
+//! Opening over devices in memory: a new store, a store with one group, damaged files, and a store whose making or whose first flush
+//! was cut short.
 use super::*;
 use sk_device::{MemDevice, Tear, TearingDevice};
-use sk_log::What;
+use sk_log::{Ends, LogFault, What, append_anchor, append_store, open_gate};
 use sk_model::{Point, Tables};
 use sk_rows::{Catalog, Column, List, Sort, Table, Txt, Value};
 use std::alloc::Global;
@@ -76,27 +77,28 @@ fn disk(alloc: Global, root: &[u8], store: &[u8], anchor: &[u8]) -> Result<MemDe
     Ok(disk)
 }
 
-fn changed(alloc: Global, bytes: &[u8], at: usize, byte: u8) -> Result<Vec<u8>, Fail> {
-    let mut bytes = bytes.to_vec(alloc)?;
-    if at < bytes.len() {
-        bytes[at] = byte;
+/// One change of the files of a store with one group: a byte that is set, or else the file is cut there. And what is wrong then.
+struct Damage {
+    file: u8,
+    at: usize,
+    byte: Option<u8>,
+    of: u8,
+    place: u64,
+    what: What,
+}
+
+/// The store with one group, changed so.
+fn changed(alloc: Global, file: u8, at: usize, byte: Option<u8>) -> Result<MemDevice, Fail> {
+    let mut disk = disk(alloc, &ROOT, &STORE, &ANCHOR)?;
+    if file < 8 && at < disk.bytes(file).len() {
+        let mut bytes = disk.bytes(file)[..at].to_vec(alloc)?;
+        if let Some(byte) = byte {
+            bytes.push(byte)?;
+            bytes.extend_from_slice(&disk.bytes(file)[at + 1..])?;
+        }
+        disk.set(file, bytes);
     }
-    Ok(bytes)
-}
-
-/// What opening these files is refused with.
-fn refusal(
-    alloc: Global,
-    root: &[u8],
-    store: &[u8],
-    anchor: &[u8],
-) -> Result<Option<OpenFault>, Fail> {
-    let mut disk = disk(alloc, root, store, anchor)?;
-    Ok(open(alloc, &mut disk, &catalog(alloc)?, START).err())
-}
-
-fn damaged(file: u8, place: u64, what: What) -> Option<OpenFault> {
-    Some(OpenFault::Damaged { file, place, what })
+    Ok(disk)
 }
 
 /// The second value of the first row of a table.
@@ -137,55 +139,169 @@ fn a_new_store_is_made_and_a_group_is_read(rt: HostRuntime) -> Result<(), Fail> 
     Ok(())
 }
 
+const DAMAGES: [Damage; 16] = [
+    Damage {
+        file: 0,
+        at: 1,
+        byte: Some(9),
+        of: 0,
+        place: 1,
+        what: What::Format,
+    },
+    Damage {
+        file: 0,
+        at: 2,
+        byte: Some(2),
+        of: 0,
+        place: 2,
+        what: What::Tag,
+    },
+    Damage {
+        file: 1,
+        at: 10,
+        byte: Some(0),
+        of: 1,
+        place: 7,
+        what: What::Order,
+    },
+    Damage {
+        file: 1,
+        at: 10,
+        byte: Some(2),
+        of: 1,
+        place: 7,
+        what: What::Order,
+    },
+    Damage {
+        file: 1,
+        at: 20,
+        byte: Some(0),
+        of: 1,
+        place: 19,
+        what: What::Range,
+    },
+    Damage {
+        file: 1,
+        at: 21,
+        byte: Some(2),
+        of: 1,
+        place: 21,
+        what: What::Tag,
+    },
+    Damage {
+        file: 1,
+        at: 5,
+        byte: Some(2),
+        of: 1,
+        place: 0,
+        what: What::Half,
+    },
+    Damage {
+        file: 1,
+        at: 37,
+        byte: None,
+        of: 1,
+        place: 30,
+        what: What::Length,
+    },
+    Damage {
+        file: 2,
+        at: 12,
+        byte: Some(0),
+        of: 1,
+        place: 7,
+        what: What::Order,
+    },
+    Damage {
+        file: 2,
+        at: 16,
+        byte: Some(37),
+        of: 1,
+        place: 30,
+        what: What::Length,
+    },
+    Damage {
+        file: 2,
+        at: 20,
+        byte: Some(2),
+        of: 2,
+        place: 59,
+        what: What::Length,
+    },
+    Damage {
+        file: 2,
+        at: 20,
+        byte: Some(0),
+        of: 2,
+        place: 21,
+        what: What::Length,
+    },
+    Damage {
+        file: 2,
+        at: 59,
+        byte: Some(1),
+        of: 2,
+        place: 60,
+        what: What::Length,
+    },
+    Damage {
+        file: 2,
+        at: 0,
+        byte: None,
+        of: 2,
+        place: 0,
+        what: What::Length,
+    },
+    Damage {
+        file: 2,
+        at: 3,
+        byte: None,
+        of: 2,
+        place: 1,
+        what: What::Length,
+    },
+    Damage {
+        file: 2,
+        at: 59,
+        byte: None,
+        of: 2,
+        place: 59,
+        what: What::Length,
+    },
+];
+
 #[test]
 fn the_first_damaged_field_is_answered(rt: HostRuntime) -> Result<(), Fail> {
     let alloc = rt.alloc();
-    let root = changed(alloc, &ROOT, 1, 9)?;
-    assert_eq!(rt;
-        refusal(alloc, &root, &STORE, &ANCHOR)?,
-        damaged(0, 1, What::Format)
-    );
-    let number = changed(alloc, &STORE, 10, 0)?;
-    assert_eq!(rt;
-        refusal(alloc, &ROOT, &number, &ANCHOR)?,
-        damaged(1, 7, What::Order)
-    );
-    let table = changed(alloc, &STORE, 20, 0)?;
-    assert_eq!(rt;
-        refusal(alloc, &ROOT, &table, &ANCHOR)?,
-        damaged(1, 19, What::Range)
-    );
-    let tag = changed(alloc, &STORE, 21, 2)?;
-    assert_eq!(rt;
-        refusal(alloc, &ROOT, &tag, &ANCHOR)?,
-        damaged(1, 21, What::Tag)
-    );
-    assert_eq!(rt;
-        refusal(alloc, &ROOT, &STORE[..37], &ANCHOR)?,
-        damaged(1, 30, What::Length)
-    );
-    let label = changed(alloc, &STORE, 5, 2)?;
-    assert_eq!(rt;
-        refusal(alloc, &ROOT, &label, &ANCHOR)?,
-        damaged(1, 0, What::Half)
-    );
-    let cut = changed(alloc, &ANCHOR, 12, 0)?;
-    assert_eq!(rt;
-        refusal(alloc, &ROOT, &STORE, &cut)?,
-        damaged(1, 7, What::Order)
-    );
-    assert_eq!(rt;
-        refusal(alloc, &ROOT, &STORE, &ANCHOR[..3])?,
-        damaged(2, 1, What::Length)
-    );
-    // A gate that is not 1 is no damage: nothing behind it counts.
-    let closed = changed(alloc, &ANCHOR, 0, 7)?;
-    assert_eq!(rt; refusal(alloc, &ROOT, &STORE, &closed)?, None);
-    let mut disk = disk(alloc, &changed(alloc, &ROOT, 0, 7)?, &STORE, &ANCHOR)?;
-    let new = open(alloc, &mut disk, &catalog(alloc)?, START)
-        .ok()
-        .ok_or("a new store")?;
-    assert!(rt; new.fresh);
+    let catalog = catalog(alloc)?;
+    for damage in &DAMAGES {
+        let mut disk = changed(alloc, damage.file, damage.at, damage.byte)?;
+        let fault = open(alloc, &mut disk, &catalog, START).err();
+        let want = OpenFault::Damaged {
+            file: damage.of,
+            place: damage.place,
+            what: damage.what,
+        };
+        assert_eq!(rt; fault, Some(want));
+    }
+    Ok(())
+}
+
+// A gate that is not 1 is no damage: nothing behind it counts. That of the anchor log leaves a store without rows, that of the root none.
+#[test]
+fn a_closed_gate_hides_what_is_behind_it(rt: HostRuntime) -> Result<(), Fail> {
+    let alloc = rt.alloc();
+    let catalog = catalog(alloc)?;
+    for (file, fresh) in [(2, false), (0, true)] {
+        let mut disk = changed(alloc, file, 0, Some(7))?;
+        let store = open(alloc, &mut disk, &catalog, START)
+            .ok()
+            .ok_or("a store")?;
+        assert_eq!(rt; store.fresh, fresh);
+        assert_eq!(rt; (store.cut.a, store.cut.b), (0, 0));
+        assert_eq!(rt; value(&store.rows, 0), None);
+        assert_eq!(rt; value(&store.rows, 1), None);
+    }
     Ok(())
 }
 
@@ -263,5 +379,63 @@ fn a_store_opens_whatever_call_of_its_making_fails(rt: HostRuntime) -> Result<()
         },
     )?;
     assert!(rt; !opens_anew(&rt, alloc, none_fails)?);
+    Ok(())
+}
+
+/// Where the logs of a new store end.
+const NEW: Ends = Ends {
+    set: 0,
+    store_end: 0,
+    gate: 0,
+};
+
+/// The six calls of a flush, which are a write and a sync of the storage log, of the group behind its closed gate, and of the gate.
+fn flush(disk: &mut TearingDevice) -> Result<(), LogFault> {
+    append_store(disk, &NEW, 60, &STORE)?;
+    append_anchor(disk, &NEW, 60, &ANCHOR[1..])?;
+    open_gate(disk, &NEW)
+}
+
+/// What a stop leaves of a flush behind a new store whose call of this number fails.
+fn flush_cut_short(alloc: Global, failing: u64, tear: Tear) -> Result<MemDevice, Fail> {
+    let mut files = MemDevice::new(alloc, [failing].to_vec(alloc)?, Vec::new(alloc));
+    files.set(0, ROOT.to_vec(alloc)?);
+    files.set(2, [0].to_vec(alloc)?);
+    files.set(5, IMAGE.to_vec(alloc)?);
+    let mut disk = TearingDevice::new(alloc, files, tear)?;
+    let _ = flush(&mut disk);
+    Ok(disk.stopped(&[tear])?)
+}
+
+/// Whether the store opens with the group. Else it opens as it was, without rows.
+fn opens_with_the_group(rt: &impl Abort, alloc: Global, mut disk: MemDevice) -> Result<bool, Fail> {
+    let opened = open(alloc, &mut disk, &catalog(alloc)?, START);
+    let store = opened.ok().ok_or("a store")?;
+    assert!(rt; !store.fresh);
+    let grown = store.cut.a == 1;
+    assert_eq!(rt; store.cut.b, store.cut.a);
+    assert_eq!(rt; value(&store.rows, 0), grown.then_some(10));
+    assert_eq!(rt; value(&store.rows, 1), grown.then_some(20));
+    Ok(grown)
+}
+
+#[test]
+fn a_stop_leaves_a_group_whole_or_not_at_all(rt: HostRuntime) -> Result<(), Fail> {
+    let alloc = rt.alloc();
+    // The last two calls write and sync the gate; the seventh is none of them.
+    for failing in 1..8 {
+        for stands in 0..4 {
+            for filler in [None, Some(0), Some(1), Some(255)] {
+                let tear = Tear {
+                    stands: stands * 19,
+                    filler,
+                };
+                let is_one = stands > 0 || matches!(filler, Some(1));
+                let left = flush_cut_short(alloc, failing, tear)?;
+                let grown = opens_with_the_group(&rt, alloc, left)?;
+                assert_eq!(rt; grown, failing == 7 || failing > 4 && is_one);
+            }
+        }
+    }
     Ok(())
 }
