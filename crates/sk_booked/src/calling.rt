@@ -23,6 +23,9 @@ const LOCK: usize = 0;
 /// The word that counts the journal.
 const COUNT: usize = 1;
 
+/// For how many turns a pass that waits stays away at most, before it tries again.
+const MOST_TURNS: u32 = 1_024;
+
 pub struct LockWord;
 
 impl<V: Journaled> Play<Option<V>, View<V, (V::Call, V::Reply)>> for LockWord {
@@ -61,6 +64,19 @@ impl<V, E> Join<View<V, E>> for Gather {
     ghost both = { gathered };
 
     ghost spent = { spent };
+}
+
+/// Stays away from the lock for so many turns, and answers for how many the next time. Who has waited longer stays away longer: then
+/// the lock and the value seldom go from one processor to another, which takes longer than a short call.
+fn stay_away(backoff: &Backoff, turns: u32) -> u32 {
+    for _ in 0..turns {
+        backoff.snooze();
+    }
+    if turns < MOST_TURNS {
+        turns + turns
+    } else {
+        turns
+    }
 }
 
 impl<V: Journaled> Booked<V> {
@@ -126,6 +142,7 @@ impl<V: Journaled> Booked<V> {
         ensures took { Took V.journal V.ready seat.old.me.0 seat.new.me }
     {
         let backoff = Backoff::new();
+        let mut turns = 1;
         for _ in rt.forever() {
             let found = self
                 .table
@@ -134,7 +151,7 @@ impl<V: Journaled> Booked<V> {
             if found == 0 {
                 return;
             }
-            backoff.snooze();
+            turns = stay_away(&backoff, turns);
         }
         unreachable!()
     }
