@@ -257,10 +257,6 @@ module _ {G : Type 0} (told : Bool) (faults : G → ℕ) (stands : G → EngineT
           (entered_or r);
     }
 
--- nothing was changed
-pub beside_writes : {G : Type 0} (x : Noted G) (c : EngineCall) (r : EngineReply) → Leaves c r → Writes Enters Leaves (pairs_of x) c r (pairs_of x)
-beside_writes x c r h = inr (refl, h)
-
 -- a journal whose length is a number that is not the greatest has fewer entries than there may be
 pub few_entries : {G : Type 0} (x : Noted G) (n : ℕ) → n ≡ length (journal_of x) → n < 2 ^ 64 → (n ≡ 18446744073709551615 → ⊥) → length (journal_of x) < most_entries
 few_entries x n is small ne = omega arith

@@ -1,4 +1,4 @@
--- What a reader finds at the place that it sees.
+-- What a reader finds at the index that it sees.
 use Rattle.std.proofs.Common.{ℕ, ◌≡◌, List, [], ◌∷◌, ◌++◌, Option, Some, None, Bool, true, false, cond, length, slice_get, is_some, refl, sym, ◌∙◌, ap, subst, append-nil}
 use Rattle.std.specs.List.{filter}
 use Rattle.sk_model.specs.declared.label.Label.{Label}
@@ -6,7 +6,7 @@ use Rattle.sk_model.specs.EngineReplies.{last_in}
 use Rattle.sk_model.specs.Records.{same_label}
 use Rattle.sk_chain.specs.declared.version.Seen.TheVariants.{At, Busy}
 use Rattle.sk_chain.specs.Chained.{Chained, Version, listed, versions}
-use Rattle.sk_chain.specs.Reading.{is_upto, is_closed_below, later_or, newest, seen_place, over, Sees, Waits, seen_at, sight_of, last_upto, found_over, found}
+use Rattle.sk_chain.specs.Reading.{is_upto, is_closed_below, later_or, newest, seen_index, over, Sees, Waits, seen_at, sight_of, last_upto, found_over, found}
 
 abbrev pub first_of : Option Version → Option Version → Option Version
 first_of (Some v) other = Some v
@@ -38,52 +38,52 @@ last_upto-cons s v vs = step (is_upto s v.state)
     step true = last_is_first v rest
     step false = first_none (last_in None rest)
 
-abbrev pub at_place : Option ℕ → List Version → Option Version
-at_place None vs = None
-at_place (Some at) vs = slice_get vs at
+abbrev pub at_index : Option ℕ → List Version → Option Version
+at_index None vs = None
+at_index (Some at) vs = slice_get vs at
 
--- this place is that of this version, or both are missing
+-- this index is that of this version, or both are missing
 pub record Fits (o : Option ℕ) (vs : List Version) (f : Option Version) : Type 0 where
-  pub place : at_place o vs ≡ f
+  pub index : at_index o vs ≡ f
   pub some : is_some o ≡ is_some f
 
 fits_more : (v : Version) (vs : List Version) (o : Option ℕ) (f : Option Version) (here : Bool) → Fits o vs f → Fits (later_or o here) (v ∷ vs) (first_of f (only_if here v))
-fits_more v vs (Some at) (Some w) here h = record { place = h.place; some = refl }
+fits_more v vs (Some at) (Some w) here h = record { index = h.index; some = refl }
 fits_more v vs (Some at) None here h = cc
 fits_more v vs None (Some w) here h = cc
-fits_more v vs None None true h = record { place = refl; some = refl }
-fits_more v vs None None false h = record { place = refl; some = refl }
+fits_more v vs None None true h = record { index = refl; some = refl }
+fits_more v vs None None false h = record { index = refl; some = refl }
 
--- the newest place is that of the last version stamped up to s
+-- the newest index is that of the last version stamped up to s
 pub fits : (s : ℕ) (vs ws : List Version) → Fits (newest s vs) (vs ++ ws) (last_upto s vs)
-fits s [] ws = record { place = refl; some = refl }
+fits s [] ws = record { index = refl; some = refl }
 fits s (v ∷ vs) ws =
     subst (λ f. Fits (newest s (v ∷ vs)) (v ∷ (vs ++ ws)) f) (sym (last_upto-cons s v vs))
     (fits_more v (vs ++ ws) (newest s vs) (last_upto s vs) (is_upto s v.state) (fits s vs ws))
 
--- what stands at the newest place
-pub newest_shows : (s : ℕ) (vs : List Version) → at_place (newest s vs) vs ≡ last_upto s vs
-newest_shows s vs = ap (at_place (newest s vs)) (sym (append-nil vs)) ∙ (fits s vs []).place
+-- what stands at the newest index
+pub newest_shows : (s : ℕ) (vs : List Version) → at_index (newest s vs) vs ≡ last_upto s vs
+newest_shows s vs = ap (at_index (newest s vs)) (sym (append-nil vs)) ∙ (fits s vs []).index
 
-place_is : (o : Option ℕ) (vs : List Version) → sight_of vs (seen_place o) ≡ Sees (at_place o vs)
-place_is None vs = refl
-place_is (Some at) vs = refl
+index_is : (o : Option ℕ) (vs : List Version) → sight_of vs (seen_index o) ≡ Sees (at_index o vs)
+index_is None vs = refl
+index_is (Some at) vs = refl
 
 at_end : (v : Version) (vs : List Version) → slice_get (vs ++ v ∷ []) (length vs) ≡ Some v
 at_end v [] = refl
 at_end v (w ∷ ws) = at_end v ws
 
-shows : (by : Label) (s : ℕ) (vs : List Version) (t : Option Version) → sight_of (vs ++ listed t) (over by s (length vs) t (seen_place (newest s vs))) ≡ found_over by s t (last_upto s vs)
-shows by s vs None = place_is (newest s vs) (vs ++ []) ∙ ap Sees (fits s vs []).place
+shows : (by : Label) (s : ℕ) (vs : List Version) (t : Option Version) → sight_of (vs ++ listed t) (over by s (length vs) t (seen_index (newest s vs))) ≡ found_over by s t (last_upto s vs)
+shows by s vs None = index_is (newest s vs) (vs ++ []) ∙ ap Sees (fits s vs []).index
 shows by s vs (Some v) = choose (same_label by v.by) (is_closed_below s v.state)
   where
     choose : (own waits : Bool)
-        → sight_of (vs ++ v ∷ []) (cond own (At (length vs)) (cond waits (Busy v.by) (seen_place (newest s vs))))
+        → sight_of (vs ++ v ∷ []) (cond own (At (length vs)) (cond waits (Busy v.by) (seen_index (newest s vs))))
         ≡ cond own (Sees (Some v)) (cond waits (Waits v.by) (Sees (last_upto s vs)))
     choose true waits = ap Sees (at_end v vs)
     choose false true = refl
-    choose false false = place_is (newest s vs) (vs ++ v ∷ []) ∙ ap Sees (fits s vs (v ∷ [])).place
+    choose false false = index_is (newest s vs) (vs ++ v ∷ []) ∙ ap Sees (fits s vs (v ∷ [])).index
 
--- what stands at the place that a reader sees is what it is to find
-pub place_shows : (c : Chained) (by : Label) (s : ℕ) → sight_of (versions c) (seen_at c by s) ≡ found c by s
-place_shows c by s = shows by s c.settled c.top
+-- what stands at the index that a reader sees is what it is to find
+pub index_shows : (c : Chained) (by : Label) (s : ℕ) → sight_of (versions c) (seen_at c by s) ≡ found c by s
+index_shows c by s = shows by s c.settled c.top

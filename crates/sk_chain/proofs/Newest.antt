@@ -1,4 +1,4 @@
--- The newest version by a search from the end, and the last element by its place.
+-- The newest version by a search from the end, and the last element by its index.
 use Rattle.std.proofs.Common.{ℕ, zero, suc, ◌-◌, ◌≤◌, ◌≡◌, List, [], ◌∷◌, Option, Some, None, Bool, true, false, cond, length, take, get_or, slice_get, refl, sym, ◌∙◌, ap, arith}
 use Rattle.std.proofs.lemmas.List.{length-take-le}
 use Rattle.sk_model.specs.EngineReplies.{last_in}

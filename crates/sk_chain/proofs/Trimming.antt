@@ -8,7 +8,7 @@ use Rattle.sk_chain.specs.declared.version.VersionState.TheVariants.{Open, Close
 use Rattle.sk_chain.specs.Chained.{Chained, Version}
 use Rattle.sk_chain.specs.Reading.{is_upto, later_or, newest, last_upto, found_over, found}
 use Rattle.sk_chain.specs.Writing.{past_of, rival_or, conflict}
-use Rattle.sk_chain.specs.Changing.{from_place, trimmed}
+use Rattle.sk_chain.specs.Changing.{from_index, trimmed}
 use Rattle.sk_chain.proofs.Finding.{first_of, only_if, last_upto-cons, fits}
 
 -- what is up to u is up to s
@@ -35,32 +35,32 @@ first_some : (f other : Option Version) → is_some f ≡ true → first_of f ot
 first_some (Some v) other h = refl
 first_some None other h = cc
 
-none_gone : (v : Version) (vs : List Version) (here : Bool) → from_place (later_or None here) (v ∷ vs) ≡ v ∷ vs
+none_gone : (v : Version) (vs : List Version) (here : Bool) → from_index (later_or None here) (v ∷ vs) ≡ v ∷ vs
 none_gone v vs true = refl
 none_gone v vs false = refl
 
-pub last_upto_kept : (u s : ℕ) → u ≤ s → (vs : List Version) → last_upto s (from_place (newest u vs) vs) ≡ last_upto s vs
+pub last_upto_kept : (u s : ℕ) → u ≤ s → (vs : List Version) → last_upto s (from_index (newest u vs) vs) ≡ last_upto s vs
 last_upto_kept u s l [] = refl
 last_upto_kept u s l (v ∷ vs) = step (newest u vs) refl (last_upto_kept u s l vs)
   where
-    step : (o : Option ℕ) → newest u vs ≡ o → last_upto s (from_place (newest u vs) vs) ≡ last_upto s vs
-        → last_upto s (from_place (later_or o (is_upto u v.state)) (v ∷ vs)) ≡ last_upto s (v ∷ vs)
+    step : (o : Option ℕ) → newest u vs ≡ o → last_upto s (from_index (newest u vs) vs) ≡ last_upto s vs
+        → last_upto s (from_index (later_or o (is_upto u v.state)) (v ∷ vs)) ≡ last_upto s (v ∷ vs)
     step (Some at) e kept =
         let there : is_some (last_upto u vs) ≡ true = sym (fits u vs []).some ∙ ap is_some e in
-        ap (λ o. last_upto s (from_place o vs)) (sym e) ∙ kept ∙ sym (first_some (last_upto s vs) (only_if (is_upto s v.state) v) (upto_stays u s l vs there)) ∙ sym (last_upto-cons s v vs)
+        ap (λ o. last_upto s (from_index o vs)) (sym e) ∙ kept ∙ sym (first_some (last_upto s vs) (only_if (is_upto s v.state) v) (upto_stays u s l vs there)) ∙ sym (last_upto-cons s v vs)
     step None e kept = ap (last_upto s) (none_gone v vs (is_upto u v.state))
 
 last_more : (u : ℕ) (v : Version) (vs : List Version) (at : ℕ) → newest u vs ≡ Some at → last_in None vs ≡ last_in (Some v) vs
 last_more u v [] at e = cc
 last_more u v (w ∷ ws) at e = refl
 
-pub last_kept : (u : ℕ) (vs : List Version) → last_in None (from_place (newest u vs) vs) ≡ last_in None vs
+pub last_kept : (u : ℕ) (vs : List Version) → last_in None (from_index (newest u vs) vs) ≡ last_in None vs
 last_kept u [] = refl
 last_kept u (v ∷ vs) = step (newest u vs) refl (last_kept u vs)
   where
-    step : (o : Option ℕ) → newest u vs ≡ o → last_in None (from_place (newest u vs) vs) ≡ last_in None vs
-        → last_in None (from_place (later_or o (is_upto u v.state)) (v ∷ vs)) ≡ last_in None (v ∷ vs)
-    step (Some at) e kept = ap (λ o. last_in None (from_place o vs)) (sym e) ∙ kept ∙ last_more u v vs at e
+    step : (o : Option ℕ) → newest u vs ≡ o → last_in None (from_index (newest u vs) vs) ≡ last_in None vs
+        → last_in None (from_index (later_or o (is_upto u v.state)) (v ∷ vs)) ≡ last_in None (v ∷ vs)
+    step (Some at) e kept = ap (λ o. last_in None (from_index o vs)) (sym e) ∙ kept ∙ last_more u v vs at e
     step None e kept = ap (last_in None) (none_gone v vs (is_upto u v.state))
 
 pub trim_reads : (c : Chained) (u : ℕ) (by : Label) (s : ℕ) → u ≤ s → found (trimmed c u) by s ≡ found c by s

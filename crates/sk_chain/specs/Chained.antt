@@ -35,8 +35,8 @@ pub record IsChain (c : Chained) : Type 0 where
   pub settled : AllByRecursion (λ v. is_stamped v.state ≡ true) c.settled
   pub top : IfSome c.top (λ v. is_stamped v.state ≡ false)
 
--- a chain with room for the stamp of its top, and with places of 32 bits
+-- a chain with room for the stamp of its top, and with indices of 32 bits
 pub record IsHeld (room : ℕ) (c : Chained) : Type 0 where
   pub chain : IsChain c
   pub room_left : length c.settled + how_many c.top ≤ room
-  pub places : length c.settled + how_many c.top < 2 ^ 32
+  pub indices : length c.settled + how_many c.top < 2 ^ 32

@@ -62,10 +62,10 @@ stamped c n = stamped_on c.settled n c.top
 abbrev pub voided : Chained → Chained
 voided c = record { settled = c.settled; top = None }
 
-abbrev pub from_place : Option ℕ → List Version → List Version
-from_place None vs = vs
-from_place (Some at) vs = drop at vs
+abbrev pub from_index : Option ℕ → List Version → List Version
+from_index None vs = vs
+from_index (Some at) vs = drop at vs
 
 -- from the newest one with a number up to upto on
 abbrev pub trimmed : Chained → ℕ → Chained
-trimmed c upto = record { settled = from_place (newest upto c.settled) c.settled; top = c.top }
+trimmed c upto = record { settled = from_index (newest upto c.settled) c.settled; top = c.top }

@@ -22,34 +22,34 @@ is_closed_below s Open = false
 is_closed_below s (Closed f) = nat_lt f s
 is_closed_below s (Stamped n) = false
 
--- a place among the later ones, or else this one
+-- an index among the later ones, or else this one
 abbrev pub later_or : Option ℕ → Bool → Option ℕ
 later_or (Some at) here = Some (suc at)
 later_or None here = cond here (Some 0) None
 
--- the place of the last version that is stamped with a number up to s
+-- the index of the last version that is stamped with a number up to s
 abbrev pub newest : ℕ → List Version → Option ℕ
 newest s [] = None
 newest s (v ∷ vs) = later_or (newest s vs) (is_upto s v.state)
 
-abbrev pub seen_place : Option ℕ → Seen
-seen_place None = Nothing
-seen_place (Some at) = At at
+abbrev pub seen_index : Option ℕ → Seen
+seen_index None = Nothing
+seen_index (Some at) = At at
 
--- a reader's own version, at the place n, stands over the stamped ones; it waits for another's closed one with a floor below s
+-- a reader's own version, at the index n, stands over the stamped ones; it waits for another's closed one with a floor below s
 abbrev pub over : Label → ℕ → ℕ → Option Version → Seen → Seen
 over by s n None seen = seen
 over by s n (Some v) seen = cond (same_label by v.by) (At n) (cond (is_closed_below s v.state) (Busy v.by) seen)
 
 abbrev pub seen_at : Chained → Label → ℕ → Seen
-seen_at c by s = over by s (length c.settled) c.top (seen_place (newest s c.settled))
+seen_at c by s = over by s (length c.settled) c.top (seen_index (newest s c.settled))
 
 -- what a reader finds: a version or none, or whom it waits for
 pub data Sight : Type 0 where
   Sees : (version : Option Version) → Sight
   Waits : (by : Label) → Sight
 
--- what stands at the place that was answered
+-- what stands at the index that was answered
 abbrev pub sight_of : List Version → Seen → Sight
 sight_of vs (At at) = Sees (slice_get vs at)
 sight_of vs Nothing = Sees None

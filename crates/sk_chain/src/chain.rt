@@ -71,8 +71,8 @@ impl Chain {
         Ok(())
     }
 
-    /// The place of the version that `by` sees at the snapshot: its own, or else the newest one that is stamped with a number of at most the snapshot. It has to wait for another's closed version whose floor is below the snapshot.
-    #[tactic(auto, using(crate::proofs::Finding::place_shows))]
+    /// The index of the version that `by` sees at the snapshot: its own, or else the newest one that is stamped with a number of at most the snapshot. It has to wait for another's closed version whose floor is below the snapshot.
+    #[tactic(auto, using(crate::proofs::Finding::index_shows))]
     pub fn seen_at(&self, by: Label, snapshot: u32) -> Seen
         ensures value { result ≡ seen_at self.now by snapshot }
         ensures finds { sight_of (versions self.now) result ≡ found self.now by snapshot }
@@ -91,7 +91,7 @@ impl Chain {
         }
     }
 
-    /// The version at a place, counted from 0, the oldest one that stands.
+    /// The version at an index, counted from 0, the oldest one that stands.
     pub fn version(&self, at: u32) -> Option<&Version>
         ensures value { option_copied result ≡ slice_get (versions self.now) at }
         ensures chain { IsChain self.now }
@@ -191,7 +191,7 @@ impl Chain {
     }
 }
 
-/// The place of the last version with a number of at most the snapshot. The search begins at the newest version.
+/// The index of the last version with a number of at most the snapshot. The search begins at the newest version.
 fn newest_upto(snapshot: u32, settled: &[Version]) -> Option<usize>
     ensures at { result ≡ newest snapshot settled.now }
     ensures within { IfSome result (λ at. at < length settled.now) }

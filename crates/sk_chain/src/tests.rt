@@ -40,7 +40,7 @@ fn look(rt: &impl Abort, chain: &Chain, table: &[(Label, u32, Seen, Option<Why>)
     }
 }
 
-// Whether a row stands at each place, or no version at all.
+// Whether a row stands at each index, or no version at all.
 fn rows(rt: &impl Abort, chain: &Chain, table: &[Option<bool>]) {
     for (at, want) in (0..).zip(table) {
         assert_eq!(rt;

@@ -32,7 +32,7 @@ pub struct Version {
 /// What a reader sees of a row.
 #[derive(Clone, Copy, Debug, PartialEq, Eq)]
 pub enum Seen {
-    /// The version at this place, counted from 0, the oldest one that stands.
+    /// The version at this index, counted from 0, the oldest one that stands.
     At(u32),
     /// No version.
     Nothing,

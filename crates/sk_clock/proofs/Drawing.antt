@@ -16,24 +16,8 @@ eq-false a b l = grind (arith, nat_tests)
 lt-false : (a b : ℕ) → b ≤ a → nat_lt a b ≡ false
 lt-false a b l = grind (arith, nat_tests)
 
-lt-true : (a b : ℕ) → a < b → nat_lt a b ≡ true
-lt-true a b l = grind (arith, nat_tests)
-
 pub drawn_next : (n floor : ℕ) → n < 2147483647 → floor ≤ n → drawn n floor ≡ Ok (n + 1)
 drawn_next n floor l f = rw (eq-false n 2147483647 l, lt-false n floor f) refl
-
-pub drawn_spent : (n floor : ℕ) → n ≡ 2147483647 → drawn n floor ≡ Err Spent
-drawn_spent n floor e = rw e refl
-
-pub drawn_early : (n floor : ℕ) → n < 2147483647 → n < floor → drawn n floor ≡ Err (Early floor n)
-drawn_early n floor l f = rw (eq-false n 2147483647 l, lt-true n floor f) refl
-
--- a counter that is below its end may be raised by one
-pub can_draw_mem : (v : View) (n : ℕ) → n < 2147483647 → CanExchange v 0 n (n + 1)
-can_draw_mem v n l log h b own here = (((λ i. sym here i + 1, omega arith), tt), refl)
-
-pub can_draw_store : (v : View) (n : ℕ) → n < 2147483647 → CanExchange v 1 n (n + 1)
-can_draw_store v n l log h b own here = (((λ i. sym here i + 1, omega arith), tt), refl)
 
 pub draws_mem : (v u w : View) (n floor : ℕ) → Looks v u → n < 2147483647 → floor ≤ n → Swaps u 0 n (DrawMem (n + 1)) w → At v (λ r. Ok (n + 1) ≡ drawn r.mem floor) (Some (DrawMem (n + 1))) w
 draws_mem v u w n floor l m f h = makes v u w (λ r. Ok (n + 1) ≡ drawn r.mem floor) (DrawMem (n + 1)) l h.extends (subst (λ (k : ℕ). Ok (n + 1) ≡ drawn k floor) (sym h.was) (sym (drawn_next n floor m f)))

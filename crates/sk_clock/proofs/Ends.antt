@@ -75,8 +75,8 @@ module _ {S : Type 0} (start : Start) (s : State S View) (k : Kept start s) (id 
     by_one = each-map (λ (e : Entry). Born k.splits e.by) (λ (e : Entry). IsOfOne e.by os) k.log (λ e b. one_found e.by b) k.by_born;
   }
 
-pub shown : {S : Type 0} (start : Start) (id : ℕ) (v : View) (ws : List ℕ) (xs : List S) (all : List Own) → v.live ≡ true → v.taken ++ v.own ∷ [] ≡ all → IsEvery all → Final (Seen (Kept start) id v) ws xs → Shows start all ws
-shown start id v ws xs all live is every f =
+pub closed_shown : {S : Type 0} (start : Start) (id : ℕ) (v : View) (ws : List ℕ) (xs : List S) (all : List Own) → v.live ≡ true → v.taken ++ v.own ∷ [] ≡ all → IsEvery all → Final (Seen (Kept start) id v) ws xs → Shows start all ws
+closed_shown start id v ws xs all live is every f =
     subst (λ (x : List Own × List ℕ). Shows start x.0 x.1) (λ i. (is i, f.2 i)) (whole start f.0 f.1.0 id v f.1.1 live (subst IsEvery (sym is) every))
 
 -- reading along the ring has come to the point `at`, and these are the live points up to it

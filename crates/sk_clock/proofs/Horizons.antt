@@ -3,6 +3,7 @@ use Rattle.std.specs.Prelude.{◌≡◌, ℕ, zero, suc, ◌+◌, ◌-◌, ◌*�
 use Rattle.std.proofs.Common.{refl, sym, ap, ◌∙◌, subst, arith, ne_eqb, eqb-true, le_refl}
 use Rattle.std.proofs.lemmas.List.{get_or-drop, length-drop}
 use Rattle.std.proofs.lemmas.Bool.{le-leb, and_parts, and_from}
+use Rattle.std.proofs.Math.Bool.{and-false}
 use Rattle.sk_model.specs.declared.point.Point.{Point}
 use Rattle.sk_weave.specs.declared.event.Event.TheVariants.{Append}
 use Rattle.sk_weave.specs.Points.{CanFollow, selection, point_at}
@@ -24,10 +25,6 @@ use Rattle.sk_clock.proofs.Ring.{Shaped, Ringed, last_at, ringed}
 use Rattle.sk_clock.proofs.Views.{ringed_now}
 use Rattle.sk_clock.proofs.Finds.{last_is, ringed_there}
 use Rattle.sk_clock.proofs.Choosing.{past_above, oldest_nth, loads_store, loads_from}
-
-and_false : (b : Bool) → (b && false) ≡ false
-and_false true = refl
-and_false false = refl
 
 -- behind a point that is past the two numbers no point is within them
 none_behind : (x y : ℕ) (best : Option Point) (points : List Point) → ((i : ℕ) → i < length points → is_within x y (get_or points i no_point) ≡ false) → greatest_within x y best points ≡ best
@@ -80,7 +77,7 @@ module _ (s : Start) (c : Cells) (ring : Ringed s c) where
   no_cut x y store k l f =
       let n : ℕ = length r.points - 1 in
       let past : is_within x y (last_of r.points) ≡ false = ap (is_within x y) (sym last_nth) ∙ past_above s c ring x y k n (omega arith) (omega arith) f in
-      rw past (and_false (store == y))
+      rw past (and-false (store == y))
 
   live_at : (i : ℕ) → get_or (live_of r) i no_point ≡ nth r (r.low * r.size + i)
   live_at i = get_or-drop (r.low * r.size) r.points i no_point

@@ -6,7 +6,7 @@ use Rattle.sk_rows.specs.declared.table.Table.{Table}
 use Rattle.sk_model.specs.declared.point.Point.{Point}
 use Rattle.sk_model.specs.Database.{Tables}
 use Rattle.sk_weave.specs.RegistryLaws.{CanStart}
-use Rattle.sk_weave.specs.Reads.{AreSorted}
+use Rattle.sk_linked.specs.Reads.{AreSorted}
 use Rattle.sk_linked.specs.declared.event.Event.{Event}
 use Rattle.sk_linked.specs.declared.event.CoreReply.{CoreReply}
 use Rattle.sk_linked.specs.declared.event.CoreReply.TheVariants as reply
@@ -14,7 +14,7 @@ use Rattle.sk_linked.specs.State.{Core, core_at}
 use Rattle.sk_linked.specs.Machine.{Next, step, run}
 use Rattle.sk_linked.specs.Lawful.{is_lawful, is_not_now}
 use Rattle.sk_linked.specs.Runs.{Start, ran}
-use Rattle.sk_core.specs.Reached.{Reached, Holds, IsStep, IsAnswered, replies_to}
+use Rattle.sk_core.specs.Reachable.{IsReachable, Holds, IsStep, IsAnswered, replies_to}
 use Rattle.sk_core.specs.Reopening.{CanWeave}
 use Rattle.sk_linked.proofs.Grounds.{is_run}
 use Rattle.sk_linked.proofs.Theorem.{linked, all_one}
@@ -25,7 +25,7 @@ use Rattle.sk_linked.proofs.Lawfulness.{unlawful}
 use Rattle.sk_linked.proofs.Taken.{lawful}
 
 -- a beginning is reached
-pub begins : (catalog : List Table) (rows : Tables) (first : Point) (partitions size : ℕ) → CanStart partitions size first → AreSorted rows → Reached (core_at catalog rows first partitions size)
+pub begins : (catalog : List Table) (rows : Tables) (first : Point) (partitions size : ℕ) → CanStart partitions size first → AreSorted rows → IsReachable (core_at catalog rows first partitions size)
 begins catalog rows first partitions size can_start sorted = record {
   start = record { catalog = catalog; rows = rows; first = first; partitions = partitions; size = size; can_start = can_start; sorted = sorted };
   events = [];
@@ -37,35 +37,35 @@ run_more k [] e = refl
 run_more k (x ∷ xs) e = run_more (step k x).core xs e
 
 -- and so is what an event makes of a state that is
-pub goes_on : (k : Core) (e : Event) → Reached k → Reached (step k e).core
+pub goes_on : (k : Core) (e : Event) → IsReachable k → IsReachable (step k e).core
 goes_on k e r = record {
   start = r.start;
   events = r.events ++ e ∷ [];
   is = run_more (core_at r.start.catalog r.start.rows r.start.first r.start.partitions r.start.size) r.events e ∙ ap (λ (j : Core). (step j e).core) r.is;
 }
 
-pub can_weave : (k : Core) → Reached k → CanWeave k
+pub can_weave : (k : Core) → IsReachable k → CanWeave k
 can_weave k r = subst CanWeave r.is (is_run _ (linked r.start r.events)).weavable
 
 -- the same, of a state that is told by an equation
-pub begins_as : (k : Core) (catalog : List Table) (rows : Tables) (first : Point) (partitions size : ℕ) → k ≡ core_at catalog rows first partitions size → CanStart partitions size first → AreSorted rows → Reached k
-begins_as k catalog rows first partitions size is can_start sorted = subst Reached (sym is) (begins catalog rows first partitions size can_start sorted)
+pub begins_as : (k : Core) (catalog : List Table) (rows : Tables) (first : Point) (partitions size : ℕ) → k ≡ core_at catalog rows first partitions size → CanStart partitions size first → AreSorted rows → IsReachable k
+begins_as k catalog rows first partitions size is can_start sorted = subst IsReachable (sym is) (begins catalog rows first partitions size can_start sorted)
 
-pub goes_on_as : (k l : Core) (e : Event) → l ≡ (step k e).core → Reached k → Reached l
-goes_on_as k l e is r = subst Reached (sym is) (goes_on k e r)
+pub goes_on_as : (k l : Core) (e : Event) → l ≡ (step k e).core → IsReachable k → IsReachable l
+goes_on_as k l e is r = subst IsReachable (sym is) (goes_on k e r)
 
 of_start : (s : Start) (events : List Event) → Holds (ran s events)
 of_start s events = record { linked = linked s events; one = all_one s events; explained = explained s events; fresh = fresh s events; durable = durable s events }
 
-pub holds : (k : Core) → Reached k → Holds k
+pub holds : (k : Core) → IsReachable k → Holds k
 holds k r = subst Holds r.is (of_start r.start r.events)
 
 -- ---- what one event is answered
 
-lawfully : (k : Core) (e : Event) → Reached k → is_lawful k e ≡ true → is_not_now (step k e).reply ≡ false
+lawfully : (k : Core) (e : Event) → IsReachable k → is_lawful k e ≡ true → is_not_now (step k e).reply ≡ false
 lawfully k e r = subst (λ (j : Core). is_lawful j e ≡ true → is_not_now (step j e).reply ≡ false) r.is (lawful r.start r.events e)
 
-pub answered : (k : Core) (e : Event) (l : Core) (r : CoreReply) → Reached k → IsStep k e l r → IsAnswered k e l r
+pub answered : (k : Core) (e : Event) (l : Core) (r : CoreReply) → IsReachable k → IsStep k e l r → IsAnswered k e l r
 answered k e l r reached is = ⊎_elim
     (λ (taken : record { core = l; reply = r } ≡ step k e). record {
       lawful = λ y. ap (λ (n : Next). is_not_now n.reply) taken ∙ lawfully k e reached y;

@@ -1,7 +1,7 @@
 //! What the machine keeps of one transaction.
 
 ghost use Rattle.std.specs.Prelude.{◌≡◌, ◌&&◌, IfOk};
-ghost use Rattle.sk_weave.specs.Reads.{snapshot_at};
+ghost use Rattle.sk_linked.specs.Reads.{snapshot_at};
 ghost use Rattle.sk_linked.specs.State as state;
 ghost use Rattle.sk_linked.specs.Traces.{drawn_at};
 ghost use Rattle.sk_linked.specs.Plans as plans;

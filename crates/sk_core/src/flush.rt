@@ -4,7 +4,7 @@ ghost use Rattle.std.specs.Prelude.{◌≡◌, IfOk, Some, None, true};
 ghost use Rattle.sk_model.specs.declared.engine.EngineName.TheVariants as name;
 ghost use Rattle.sk_model.specs.declared.call.EngineCall.TheVariants as call;
 ghost use Rattle.sk_linked.specs.declared.event.CoreReply.TheVariants as reply;
-ghost use Rattle.sk_weave.specs.Reads.{number_at};
+ghost use Rattle.sk_linked.specs.Reads.{number_at};
 ghost use Rattle.sk_linked.specs.Machine as machine;
 
 use crate::actor::Actor;

@@ -2,10 +2,10 @@
 
 ghost use Rattle.std.specs.Prelude.{◌≡◌, IfOk, OnErr, map};
 ghost use Rattle.sk_weave.specs.RegistryLaws.{CanStart};
-ghost use Rattle.sk_weave.specs.Reads.{AreSorted};
+ghost use Rattle.sk_linked.specs.Reads.{AreSorted};
 ghost use Rattle.sk_linked.specs.State.{core_at, record_of};
 ghost use Rattle.sk_linked.specs.Machine.{step};
-ghost use Rattle.sk_core.specs.Reached.{Reached, Holds, IsStep, IsAnswered, IsRun};
+ghost use Rattle.sk_core.specs.Reachable.{IsReachable, Holds, IsStep, IsAnswered, IsRun};
 
 use crate::doing::Next;
 use crate::now::Now;
@@ -38,18 +38,18 @@ pub struct Core {
 
 impl Model for Core {
     ghost use Rattle.sk_linked.specs.State.{Core as AnyCore};
-    ghost use Rattle.sk_core.specs.Reached.{Reached, IsShown};
+    ghost use Rattle.sk_core.specs.Reachable.{IsReachable, IsShown};
 
     ghost Value = { AnyCore };
 
     ghost view = { λ c. c.present };
 
-    ghost invariant = { λ c. IsShown c.present c.mem c.store c.records × Reached c.present };
+    ghost invariant = { λ c. IsShown c.present c.mem c.store c.records × IsReachable c.present };
 }
 
 /// The machine with this state, and what it hands out.
 fn shown(alloc: Global, present: Now) -> Result<Core, NoMemory>
-    requires { Reached present }
+    requires { IsReachable present }
     ensures { IfOk result (λ c. c ≡ present) }
 {
     let mem = journal_of(alloc, present.state.mem.as_slice())?;
@@ -115,7 +115,7 @@ impl Core {
 
     /// Some events led here from a beginning.
     fn is_reached(&self)
-        ensures { Reached self.now }
+        ensures { IsReachable self.now }
     {
         // A value that is read has its invariant.
         let _alloc = self.alloc;

@@ -7,7 +7,7 @@ ghost use Rattle.sk_model.specs.Numbers.{there};
 ghost use Rattle.sk_model.specs.Stamped.{number_in};
 ghost use Rattle.sk_model.specs.Talks.{is_done, writes_in_call, puts_in};
 ghost use Rattle.sk_weave.specs.Woven.{IsWeavable, own_writes};
-ghost use Rattle.sk_weave.specs.Reads.{owns};
+ghost use Rattle.sk_linked.specs.Reads.{owns};
 ghost use Rattle.sk_linked.specs.State.{transaction_of, traces_of};
 ghost use Rattle.sk_linked.specs.Traces as traces;
 ghost use Rattle.sk_linked.specs.Machine as machine;

@@ -37,46 +37,11 @@ module _ (m n : TearingDevice) (file at k : ℕ) (bytes : List ℕ) (base : base
       let two = subst (λ (a : ℕ). Torn file a keeps.write.size was image) keeps.is_at one in
       subst (λ (s : ℕ). Torn file at s was image) keeps.is_size two
 
-  is_torn : (was image : Image) → Torn file at k was image → Torn keeps.write.file keeps.write.at keeps.write.size was image
-  is_torn was image torn =
-      let one = subst (λ (f : ℕ). Torn f at k was image) (sym keeps.is_file) torn in
-      let two = subst (λ (a : ℕ). Torn keeps.write.file a k was image) (sym keeps.is_at) one in
-      subst (λ (s : ℕ). Torn keeps.write.file keeps.write.at s was image) (sym keeps.is_size) two
-
   after : (image : Image) → Remains (base_of m) (Wrote keeps.write ∷ changes_made m) image → AfterStep tearing_disk (Torn file at k) m image
   after image (was, left, torn) = (was, left, torn_is was image torn)
 
-  pub tears_wrote : Tears tearing_disk file at k m n
-  tears_wrote was image left torn = is_left image (was, left, is_torn was image torn)
-
   seen_is : image_after (base_of n) (changes_made n) ≡ rewritten keeps.write (image_after (base_of m) (changes_made m))
   seen_is = ap (λ (l : List Change). image_after (base_of n) l) keeps.pushed ∙ ap (λ (b : Image). rewritten keeps.write (image_after b (changes_made m))) base
-
-  pub torn_wrote : Torn file at k (image_after (base_of m) (changes_made m)) (image_after (base_of n) (changes_made n))
-  torn_wrote =
-      let was = image_after (base_of m) (changes_made m) in
-      subst (λ (im : Image). Torn file at k was im) (sym seen_is) (torn_is was (rewritten keeps.write was) (keeps.write.torn was))
-
-  pub steps_wrote : Steps tearing_disk (Torn file at k) m n
-  steps_wrote = record {
-    later = omega (arith, ap length keeps.pushed);
-    now = λ image left. after image (was_left image left);
-    since = λ t image le left.
-        ⊎_elim (λ now. inr (after image now)) (λ (_, past). inl past)
-        (subst (λ (b : Image). Remained b t (Wrote keeps.write ∷ changes_made m) image) base (subst (λ (l : List Change). Remained (base_of n) t l image) keeps.pushed left));
-    keeps = λ t image le left.
-        subst (λ (l : List Change). Remained (base_of n) t l image) (sym keeps.pushed)
-        (subst (λ (b : Image). Remained b t (Wrote keeps.write ∷ changes_made m) image) (sym base) (inr (le, left)));
-  }
-
--- a call that left everything as it was
-pub steps_left : (m n : TearingDevice) (file at k : ℕ) → base_of n ≡ base_of m → changes_made n ≡ changes_made m → Steps tearing_disk (Torn file at k) m n
-steps_left m n file at k base same = record {
-  later = omega (arith, ap length same);
-  now = λ image left. (image, subst (λ (b : Image). Remains b (changes_made m) image) base (subst (λ (l : List Change). Remains (base_of n) l image) same left), torn_same file at k image);
-  since = λ t image le left. inl (subst (λ (b : Image). Remained b t (changes_made m) image) base (subst (λ (l : List Change). Remained (base_of n) t l image) same left));
-  keeps = λ t image le left. subst (λ (l : List Change). Remained (base_of n) t l image) (sym same) (subst (λ (b : Image). Remained b t (changes_made m) image) (sym base) left);
-}
 
 -- a sync that was done
 module _ (m n : TearingDevice) (file : ℕ) (base : base_of n ≡ base_of m) (more : changes_made n ≡ Synced file ∷ changes_made m) where
@@ -95,7 +60,3 @@ module _ (m n : TearingDevice) (file : ℕ) (base : base_of n ≡ base_of m) (mo
         subst (λ (l : List Change). Remained (base_of n) t l image) (sym more)
         (subst (λ (b : Image). Remained b t (Synced file ∷ changes_made m) image) (sym base) (inr (le, left)));
   }
-
-  pub keeps_synced : (image : Image) → Remains (base_of m) (changes_made m) image → image file ≡ image_after (base_of m) (changes_made m) file → Remains (base_of n) (changes_made n) image
-  keeps_synced image left settled =
-      subst (λ (l : List Change). Remains (base_of n) l image) (sym more) (subst (λ (b : Image). Remains b (Synced file ∷ changes_made m) image) (sym base) (left, settled))

@@ -138,14 +138,6 @@ module _ (name : EngineName) (told : Bool) (before now : ℕ) (shown then : List
         }),
       )
 
-  pub serve_old : (s : ℕ) → s < b.purged → StandsBy name shown b e → may e (call.Open tx s) ≡ true → LeavesTable told before now (StandsBy name shown b) e (call.Open tx s) (Some (Fault (fault.Old s b.purged)))
-  serve_old s lt h m =
-      let c : EngineCall = call.Open tx s in (
-        due_reply told before now e c (Fault (fault.Old s b.purged)) m
-            (cond-true (nat_lt s e.purged) (Fault (fault.Old s e.purged)) Done (subst (λ x. nat_lt s x ≡ true) h.stands.purged (lt-ltb s b.purged lt)) ∙ ap (λ x. Fault (fault.Old s x)) (sym h.stands.purged)),
-        after_refused (StandsBy name shown b) e c (Fault (fault.Old s b.purged)) refl h,
-      )
-
   pub serve_close : n.greatest ≡ b.greatest → n.purged ≡ b.purged → n.horizon ≡ b.horizon → n.numbers.items ≡ b.numbers.items
       → ((q : Label) → held_in n.openings.entries q ≡ cond (same_label tx q) (floored b.greatest (held_in b.openings.entries tx)) (held_in b.openings.entries q)) → HasRoom n
       → ((tables : List Table) (chains : Chains) → shown tables chains → then tables (all_acted (act.Close b.greatest) (wrote_by (held_in b.openings.entries tx)) chains))

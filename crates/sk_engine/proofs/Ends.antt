@@ -113,6 +113,3 @@ module _ (name : EngineName) (told : Bool) (before now : ℕ) (shown then : List
           room = room;
         }),
       )
-
-  pub serve_horizon : StandsBy name shown b e → may e call.Horizon ≡ true → LeavesTable told before now (StandsBy name shown b) e call.Horizon (Some (Number b.horizon))
-  serve_horizon h a = (due_reply told before now e call.Horizon (Number b.horizon) a (ap Number (sym h.counts.horizon)), after_asked (StandsBy name shown b) e call.Horizon (Number b.horizon) refl h)

@@ -6,6 +6,7 @@ use Rattle.std.specs.List.Sorted.{IsStrictlySortedBy}
 use Rattle.std.specs.Ordering.{nat_cmp}
 use Rattle.std.specs.FinMap.{find}
 use Rattle.std.proofs.lemmas.Bool.{cases_Bool, false≢true, eqb-true, eq-eqb}
+use Rattle.std.proofs.Math.Bool.{and-false}
 use Rattle.sk_rows.specs.declared.value.Value.{Value}
 use Rattle.sk_model.specs.declared.label.Label.{Label}
 use Rattle.sk_model.specs.declared.call.EngineCall.TheVariants as call
@@ -26,14 +27,10 @@ use Rattle.sk_engine.proofs.Counting.{is_given, given_restand, all_wrote_same, e
 use Rattle.sk_engine.proofs.Numbering.{stamped_more, stamped_void, used_stamp, used_void}
 use Rattle.sk_engine.proofs.Ended.{below, above, unlike, next_rises, then_used, then_climbs, then_low}
 
-and_off : (b : Bool) → (b && false) ≡ false
-and_off true = refl
-and_off false = refl
-
 given_step : (t : ℕ) (key : Value) (tx : Label) (m : ℕ) (v : Version) (b : Bool) → is_own tx v ≡ b → is_given t key m v ≡ false
     → is_given t key m (cond b (record v { standing = Stamped m }) v) ≡ (is_of t key v && b)
 given_step t key tx m v true e off = ap (λ b. is_of t key v && b) (eq-eqb m m refl)
-given_step t key tx m v false e off = off ∙ sym (and_off (is_of t key v))
+given_step t key tx m v false e off = off ∙ sym (and-false (is_of t key v))
 
 own_given : (t : ℕ) (key : Value) (tx : Label) (m : ℕ) (vs : List Version) → Each (λ (v : Version). is_given t key m v ≡ false) vs
     → list_any (is_given t key m) (restand tx (Stamped m) vs) ≡ list_any (λ v. is_of t key v && is_own tx v) vs
@@ -89,16 +86,16 @@ none_given e m t key l unused = each_weaker _ _ (λ v k. one v k) e.versions l.k
     one v k = go v.standing refl
       where
         go : (st : VersionState) → v.standing ≡ st → is_given t key m v ≡ false
-        go Open d = ap (λ s. is_of t key v && stamps m s) d ∙ and_off (is_of t key v)
-        go (Closed f) d = ap (λ s. is_of t key v && stamps m s) d ∙ and_off (is_of t key v)
-        go Dropped d = ap (λ s. is_of t key v && stamps m s) d ∙ and_off (is_of t key v)
+        go Open d = ap (λ s. is_of t key v && stamps m s) d ∙ and-false (is_of t key v)
+        go (Closed f) d = ap (λ s. is_of t key v && stamps m s) d ∙ and-false (is_of t key v)
+        go Dropped d = ap (λ s. is_of t key v && stamps m s) d ∙ and-false (is_of t key v)
         go (Stamped n) d = ⊎_elim
             (λ (s : (m == n) ≡ true).
             let same : m ≡ n = eqb-true m n s in
             let there : is_some (find nat_cmp n e.stamped) ≡ true = k n (ap (λ (x : VersionState). number_of x) d) in
             let yes : is_used e m ≡ true = ap (λ b. b || list_any (◌==◌ m) e.voided) (ap (λ i. is_some (find nat_cmp i e.stamped)) same ∙ there) in
             absurd (false≢true (sym unused ∙ yes)))
-            (λ (s : (m == n) ≡ false). ap (λ x. is_of t key v && stamps m x) d ∙ ap (λ b. is_of t key v && b) s ∙ and_off (is_of t key v))
+            (λ (s : (m == n) ≡ false). ap (λ x. is_of t key v && stamps m x) d ∙ ap (λ b. is_of t key v && b) s ∙ and-false (is_of t key v))
             (cases_Bool (m == n))
 
 new_wrote : (newest p : ℕ) (opening : Label → Option Held) (chain : Chains) (e : EngineTable) (tx : Label) (m : ℕ) → Stands newest p opening chain e → Listed e.start e → is_used e m ≡ false

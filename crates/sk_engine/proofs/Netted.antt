@@ -11,6 +11,7 @@ use Rattle.std.specs.FinMap.{find, is_sorted}
 use Rattle.std.specs.FinMap.Entries.{find-put, is_sorted-put, below_all, same_entries}
 use Rattle.std.proofs.lemmas.Map.Keys.{sorted_head, sorted_tail}
 use Rattle.std.proofs.lemmas.Bool.{cases_Bool, and_parts, and_from, cond-true, cond-false, false≢true, le-leb, eqb-true}
+use Rattle.std.proofs.lemmas.Float.{T_from_true}
 use Rattle.sk_rows.specs.declared.value.Value.{Value}
 use Rattle.sk_rows.specs.Values.{value_cmp}
 use Rattle.sk_model.specs.declared.commit.Write.{Write}
@@ -306,10 +307,6 @@ sorted_entries : (chains : Chains) (n : ℕ) (ps : List RowId) → IsStrictlySor
 sorted_entries chains n [] h = refl
 sorted_entries chains n (p ∷ ps) h = and_from _ _ (below_entries chains n p ps (sorted_head row_id_cmp p ps h)) (sorted_entries chains n ps (sorted_tail row_id_cmp p ps h))
 
-to_T : (b : Bool) → b ≡ true → T b
-to_T true e = tt
-to_T false e = absurd (false≢true e)
-
 table_key_same : (x y : TableKey) → table_key_cmp x y ≡ Equal → x ≡ y
 table_key_same x y e =
     let parts : ((x.0 == y.0) ≡ true) × (eq_by_cmp value_cmp x.1 y.1 ≡ true) = and_parts (x.0 == y.0) (eq_by_cmp value_cmp x.1 y.1) (sym (table_key_tied x.0 x.1 y) ∙ ap is_eq e) in
@@ -322,7 +319,7 @@ pub net_given : (g p n : ℕ) (opening : ℕ → Value → Option RowOf) (vs : L
     → ((t : ℕ) (key : Value) → RowIs p (opening t key) (row_versions t key vs) (chains t key)) → Ordered vs → Each (λ (v : Version). TimedAt g v.snapshot v.standing) vs → p ≤ n → Wrote vs n row_ids
     → net (map (λ (v : Version). v.write) (filter (is_stamped_with n) vs)) ≡ map (write_given chains n) row_ids
 net_given g p n opening vs chains row_ids rows o timed le w =
-    ap (map write_of) (same_entries table_key_cmp row_ids_ordered table_key_same (fold noted [] ws) (map (entry_of chains n) row_ids) (noted_sorted ws [] tt) (to_T _ (sorted_entries chains n row_ids w.ordered)) (λ q. at q.0 q.1))
+    ap (map write_of) (same_entries table_key_cmp row_ids_ordered table_key_same (fold noted [] ws) (map (entry_of chains n) row_ids) (noted_sorted ws [] tt) (T_from_true _ (sorted_entries chains n row_ids w.ordered)) (λ q. at q.0 q.1))
     ∙ written_out chains n row_ids
   where
     ws : List Write

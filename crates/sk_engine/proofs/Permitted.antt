@@ -13,6 +13,7 @@ use Rattle.sk_model.proofs.Listed.{some_is, none_some}
 use Rattle.sk_model.proofs.Fitting.{fit}
 use Rattle.std.specs.Option.{option_map}
 use Rattle.std.specs.List.{list_any}
+use Rattle.std.specs.Cmp.{both_ways}
 use Rattle.sk_model.specs.declared.label.Label.{Label}
 use Rattle.sk_model.specs.Engine.{opening_of}
 use Rattle.sk_model.specs.Engine.{Opening as Opened}
@@ -40,14 +41,9 @@ columns_found [] (suc t) found e = none_some e
 columns_found (x ∷ xs) zero found e = ap (λ (y : Table). y.columns) (some_is e)
 columns_found (x ∷ xs) (suc t) found e = columns_found xs t found e
 
-same_truth : (a b : Bool) → (a ≡ true → b ≡ true) → (b ≡ true → a ≡ true) → a ≡ b
-same_truth true b f g = sym (f refl)
-same_truth false true f g = g refl
-same_truth false false f g = refl
-
 row_for : (e : EngineTable) (t : ℕ) (key : Value) (row : Option RowOf) (r : Bool) → IsRowFor (columns_at e.catalog t) key row r → r ≡ has_row e t key row
 row_for e t key None r h = h
-row_for e t key (Some row) r h = same_truth r (has_row e t key (Some row)) (λ a. (fit e t key row).1 (h.0 a)) (λ a. h.1 ((fit e t key row).0 a))
+row_for e t key (Some row) r h = both_ways r (has_row e t key (Some row)) (λ a. (fit e t key row).1 (h.0 a)) (λ a. h.1 ((fit e t key row).0 a))
 
 pub row_goes : (name : EngineName) (tables : List Table) (t : ℕ) (key : Value) (row : Option RowOf) (found : Table) (r : Bool) (e : EngineTable) → Some found ≡ kept_at name tables t → fits_key found.columns key ≡ true
     → IsRowFor found.columns key row r → e.catalog ≡ tables → r ≡ (keeps name tables t && (fits_key (columns_at tables t) key && has_row e t key row))

@@ -48,26 +48,10 @@ IfHead q (u ∷ us) = q < u.n
 
 -- ---- what is given up
 
-pub forgets_same : {S : Type 0} (shows : S → List Table → Chains → Type 0) (u : ℕ) (a : S) → Forgets shows u a a
-forgets_same shows u a = λ tables chains h. (chains, (λ t key. record { top = refl; reads = λ s l. refl; last = λ s l. refl }), h)
-
-pub forgets_more : {S : Type 0} (shows : S → List Table → Chains → Type 0) (u : ℕ) (a b c : S) → Forgets shows u a b → Forgets shows u b c → Forgets shows u a c
-forgets_more shows u a b c f g = λ tables chains h.
-    let x = f tables chains h in
-    let y = g tables x.0 x.2 in (
-      y.0,
-      (λ t key. let p : AgreeFrom u (chains t key) (x.0 t key) = x.1 t key in let q : AgreeFrom u (x.0 t key) (y.0 t key) = y.1 t key in
-          record { top = q.top ∙ p.top; reads = λ s l. q.reads s l ∙ p.reads s l; last = λ s l. q.last s l ∙ p.last s l }),
-      y.2,
-    )
-
 -- ---- the least open snapshot
 
 opened : Label × Opening → Label × Opened
 opened x = (x.0, timed (held x.1))
-
-all_opened : List (Label × Opening) → Openings
-all_opened es = map (λ (x : Label × Opening). (x.0, timed (held x.1))) es
 
 below_opened : (k : Label) (es : List (Label × Opening)) → AllByRecursion (λ y. label_cmp k y ≡ Less) (keys_of es) → T (below_all label_cmp k (map (λ (x : Label × Opening). (x.0, timed (held x.1))) es))
 below_opened k [] h = tt

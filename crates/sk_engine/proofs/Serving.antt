@@ -137,8 +137,3 @@ sound_change name e c m r h =
       fit = fit_change e c m h.fit;
       listed = subst (λ s. Listed s (change e c)) (sym (start_change e c)) (subst (Listed e.start) is (listed_entries e.start e (j ∷ []) h.listed));
     }
-
-pub catalog_change : (e : EngineTable) (c : EngineCall) → may e c ≡ true → is_refusal (answer_of e c) ≡ false → (change e c).catalog ≡ e.catalog
-catalog_change e c m r =
-    let j : Entry = record { call = c; reply = answer_of e c } in
-    ap (λ (f : EngineTable). f.catalog) (sym (step_done e c (answer_of e c) m r)) ∙ catalog_stays e (j ∷ [])

@@ -1,6 +1,6 @@
 -- What a checked operation answers.
 use Rattle.std.proofs.Common.{◌≡◌, ◌^◌, Bool, true, false, Option, Some, None, ok_or, SomeIff, ℤ, pos, negsuc, FitsSigned, w64, refl}
-use Rattle.std.proofs.lemmas.Bool.{ltb-true, lt-ltb}
+use Rattle.std.proofs.lemmas.Bool.{ltb-true, lt-ltb, false_from_ne_true}
 use Rattle.sk_rows.specs.declared.faults.ValueFault.TheVariants.{Overflow}
 use Rattle.sk_rows.specs.Evaluation.{fits_64, in_64}
 
@@ -12,12 +12,8 @@ fits_from : (z : ℤ) → fits_64 z ≡ true → FitsSigned w64 z
 fits_from (pos n) e = record { sfits = ltb-true n (2 ^ 63) e }
 fits_from (negsuc n) e = record { sfits = ltb-true n (2 ^ 63) e }
 
-is_false : (b : Bool) → ¬ (b ≡ true) → b ≡ false
-is_false true never = absurd (never refl)
-is_false false never = refl
-
 -- a checked operation whose result is z gives z, or Overflow
 pub checked : (r : Option ℤ) (z : ℤ) → SomeIff r (FitsSigned w64 z) z → ok_or r Overflow ≡ in_64 z
 unfolding in_64
-checked None z outside = rw (is_false (fits_64 z) (λ e. outside (fits_from z e))) refl
+checked None z outside = rw (false_from_ne_true (fits_64 z) (λ e. outside (fits_from z e))) refl
 checked (Some y) z inside = rw (fits_64_from z inside.0, inside.1) refl

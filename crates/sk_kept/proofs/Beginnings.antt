@@ -8,7 +8,7 @@ use Rattle.sk_model.specs.declared.point.Point.{Point}
 use Rattle.sk_model.proofs.Lists.{Each}
 use Rattle.sk_linked.specs.Joining.{MayRecords}
 use Rattle.sk_linked.specs.State.{counter}
-use Rattle.sk_weave.specs.Reads.{number_at}
+use Rattle.sk_linked.specs.Reads.{number_at}
 use Rattle.sk_weave.specs.AheadLaws.{counters_of}
 use Rattle.sk_weave.proofs.Aheads.{at_first}
 use Rattle.sk_session.specs.Common.{Common}

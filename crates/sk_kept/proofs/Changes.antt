@@ -19,7 +19,7 @@ use Rattle.sk_weave.specs.Points.{selection, commit_point, CanFollow, Climbs, St
 use Rattle.sk_weave.specs.Laws.{CanComeLast}
 use Rattle.sk_weave.specs.Registry.{Regs, IsSound, last_of, oldest_of, is_full, after_all, append_steps, appended, selected, selection_steps, after_selection, drawn, draw_steps, after_draw_mem, after_draw_store, passes, checked, after_check}
 use Rattle.sk_weave.specs.AheadLaws.{counters_of}
-use Rattle.sk_weave.specs.Reads.{PairIf}
+use Rattle.sk_linked.specs.Reads.{PairIf}
 use Rattle.sk_weave.proofs.Staircase.{check_follows}
 use Rattle.sk_weave.proofs.Registers.{points_after_append, select_follows, comes_last, ok_is}
 use Rattle.sk_weave.proofs.Pairs.{pair_stays}

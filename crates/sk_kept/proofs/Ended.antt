@@ -12,7 +12,7 @@ use Rattle.sk_model.specs.Database.{Tables}
 use Rattle.sk_model.specs.Records.{OneDatabase}
 use Rattle.sk_model.specs.Talks.{Talk}
 use Rattle.sk_model.proofs.Lists.{Each}
-use Rattle.sk_weave.specs.Reads.{order_of}
+use Rattle.sk_linked.specs.Reads.{order_of}
 use Rattle.sk_weave.specs.AheadLaws.{Counters}
 use Rattle.sk_linked.specs.Traces.{Transaction, run_of}
 use Rattle.sk_linked.specs.Headline.{place_of}

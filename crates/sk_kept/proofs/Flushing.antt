@@ -19,7 +19,7 @@ use Rattle.sk_model.proofs.Lists.{Each, each_append, each_weaker}
 use Rattle.sk_weave.specs.Points.{selection}
 use Rattle.sk_weave.specs.Registry.{Regs, after_all, append_steps, makes_cut, after_cut}
 use Rattle.sk_weave.specs.AheadLaws.{Counters, counters_of, AreAhead}
-use Rattle.sk_weave.specs.Reads.{PairIf}
+use Rattle.sk_linked.specs.Reads.{PairIf}
 use Rattle.sk_weave.proofs.Aheads.{ahead_stays}
 use Rattle.sk_linked.specs.Traces.{In, IsAtHorizons}
 use Rattle.sk_linked.specs.Joining.{MayRecord, MayRecords}

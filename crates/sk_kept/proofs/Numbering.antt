@@ -2,7 +2,7 @@
 use Rattle.std.specs.Prelude.{◌≡◌, ℕ, ◌<◌, ◌≤◌, ◌+◌, List, [], ◌∷◌, ◌++◌, Bool, true, false, ◌==◌, ◌&&◌, length, map}
 use Rattle.std.proofs.Common.{refl, sym, ap, subst, ◌∙◌, inl, inr, ⊎_elim, arith}
 use Rattle.std.specs.List.{flat_map}
-use Rattle.std.proofs.lemmas.Bool.{ne_eqb, eqb-true, eq-eqb, cases_Bool, false≢true}
+use Rattle.std.proofs.lemmas.Bool.{ne_eqb, eqb-true, eq-eqb, cases_Bool, false≢true, and_right}
 use Rattle.std.proofs.lemmas.List.{append-nil, append_assoc}
 use Rattle.std.proofs.lemmas.List.Concat.{flat_map-append}
 use Rattle.sk_model.specs.declared.label.Label.{Label}
@@ -71,12 +71,8 @@ labels_in number k (f ∷ fs) (t ∷ ts) h =
     let n : length fs + (k + 1) ≡ length (f ∷ fs) + k = omega arith in
     ((ap (λ (l : Label). l.session) h.0, omega arith), subst (λ b. Each (IsOf number b) (traces_of fs ts)) n (labels_in number (k + 1) fs ts h.1))
 
-and_off : (a b : Bool) → b ≡ false → (a && b) ≡ false
-and_off true b e = e
-and_off false b e = refl
-
 same_session_apart : (l m : Label) (n : ℕ) → l.k ≡ n → m.k < n → same_label l m ≡ false
-same_session_apart l m n e h = and_off (l.session == m.session) (l.k == m.k) (ne_eqb l.k m.k (λ q. past q))
+same_session_apart l m n e h = and_right (l.session == m.session) (l.k == m.k) (ne_eqb l.k m.k (λ q. past q))
   where
     past : l.k ≡ m.k → ⊥
     past q = omega arith

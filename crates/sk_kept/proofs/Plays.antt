@@ -12,7 +12,7 @@ use Rattle.sk_model.specs.Talks.{tx_of, entries_by}
 use Rattle.sk_model.proofs.Labels.{same_itself}
 use Rattle.sk_model.proofs.Lists.{Each, each_weaker}
 use Rattle.sk_weave.specs.Points.{Staircase}
-use Rattle.sk_weave.specs.Reads.{PairIf}
+use Rattle.sk_linked.specs.Reads.{PairIf}
 use Rattle.sk_linked.specs.Traces.{drawn_at, Transaction, In, Distinct, DrewUnlike, Whose, Known, MakerOf, IsAtHorizons, PointsMade}
 use Rattle.sk_linked.specs.Joining.{Share, Counted, MayRecords, all_transactions}
 use Rattle.sk_linked.specs.Kept.{Account, Session, Play, transaction_in, share_in, shares_in, traces_in, IsAccount, IsPlay}

@@ -21,7 +21,7 @@ use Rattle.sk_weave.specs.declared.answer.Selected.{Selected}
 use Rattle.sk_weave.specs.Points.{selection, Climbs, Staircase, before_b, last_from, first_past, chosen, pick, Pair}
 use Rattle.sk_weave.specs.Registry.{Regs, IsSound, last_of, oldest_of, after_all, selected, selection_steps, after_selection}
 use Rattle.sk_weave.specs.AheadLaws.{Counters, counters_of, AreAhead}
-use Rattle.sk_weave.specs.Reads.{PairIf}
+use Rattle.sk_linked.specs.Reads.{PairIf}
 use Rattle.sk_weave.proofs.Registers.{selected_pair, ok_is}
 use Rattle.sk_weave.proofs.Aheads.{fresh}
 use Rattle.sk_linked.specs.Traces.{In}

@@ -140,14 +140,6 @@ nothing_opened (at.Asking live (job.Leave e how r lost)) none = by e
 
 -- ---- a statement
 
--- a session that is between two lines waits for nothing
-between_waits : (there : At) → IsBetween there → waited there ≡ None
-between_waits at.Outside b = refl
-between_waits (at.Inside live) b = refl
-between_waits (at.Stepping live c) b = refl
-between_waits at.Ended b = refl
-between_waits (at.Asking live doing) b = absurd b
-
 between_opens : (there : At) → IsBetween there → IsOpening there → ⊥
 between_opens at.Outside b o = o
 between_opens (at.Inside live) b o = o
@@ -254,7 +246,7 @@ live_last catalog s talks live doing e h front f is = go (subst (λ there. HasTa
     go : HasTalks catalog s.number s.records (at.Asking live doing) talks → f ≡ facts_of (record_now live)
     go k =
         let all : facts_in s ≡ map facts_of k.1.front ++ facts_of (record_now live) ∷ [] =
-        ap (λ there. map facts_of (so_far s.records there)) e ∙ ap (λ rs. map facts_of (with_last rs (record_now live))) k.1.records_are ∙ last_facts k.1.front k.1.place (record_now live) in
+        ap (λ there. map facts_of (so_far s.records there)) e ∙ ap (λ rs. map facts_of (with_last rs (record_now live))) k.1.records_are ∙ last_facts k.1.front k.1.open_record (record_now live) in
         (same_last front (map facts_of k.1.front) f (facts_of (record_now live)) (sym is ∙ all)).1
 
 module _ (catalog : List Table) (old : Session) (talks : List Talk) (got : Got) (new : Session) (t : Turn) (live : Live) (doing : Job) (is : old.at ≡ at.Asking live doing)

@@ -16,7 +16,7 @@ use Rattle.sk_model.specs.Talks.{calls_in, tx_of, is_tx, is_by, entries_by}
 use Rattle.sk_model.proofs.Labels.{same_itself, not_same_back}
 use Rattle.sk_model.proofs.Lists.{Each, each_append, each_weaker, filter_all}
 use Rattle.sk_weave.specs.AheadLaws.{counters_of}
-use Rattle.sk_weave.specs.Reads.{PairIf, number_at}
+use Rattle.sk_linked.specs.Reads.{PairIf, number_at}
 use Rattle.sk_weave.specs.Registry.{Regs}
 use Rattle.sk_linked.specs.Traces.{In, IsAtHorizons}
 use Rattle.sk_linked.specs.Joining.{MayRecords}

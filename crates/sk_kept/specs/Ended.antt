@@ -11,7 +11,7 @@ use Rattle.sk_model.specs.Database.{Tables}
 use Rattle.sk_model.specs.Engine.{engine_at}
 use Rattle.sk_model.specs.Records.{OneDatabase}
 use Rattle.sk_model.specs.Talks.{Talk}
-use Rattle.sk_weave.specs.Reads.{number_at, order_of, AreSorted}
+use Rattle.sk_linked.specs.Reads.{number_at, order_of, AreSorted}
 use Rattle.sk_linked.specs.Traces.{run_of}
 use Rattle.sk_linked.specs.Headline.{place_of}
 use Rattle.sk_linked.specs.Joining.{TablesFit}

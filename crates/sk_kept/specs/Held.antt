@@ -10,7 +10,7 @@ use Rattle.sk_model.specs.Records.{AtMost}
 use Rattle.sk_model.specs.Talks.{Talk, calls_in, tx_of, entries_by}
 use Rattle.sk_weave.specs.Registry.{Regs}
 use Rattle.sk_weave.specs.AheadLaws.{Counters, counters_of}
-use Rattle.sk_weave.specs.Reads.{PairIf, number_at}
+use Rattle.sk_linked.specs.Reads.{PairIf, number_at}
 use Rattle.sk_linked.specs.State.{counter}
 use Rattle.sk_linked.specs.Traces.{In, IsAtHorizons}
 use Rattle.sk_linked.specs.Joining.{MayRecords}

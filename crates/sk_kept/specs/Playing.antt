@@ -5,7 +5,7 @@ use Rattle.sk_rows.specs.Catalog.{IsCatalog}
 use Rattle.sk_model.specs.declared.engine.EngineName.{EngineName}
 use Rattle.sk_model.specs.declared.record.Said.{Said}
 use Rattle.sk_model.specs.RecordTalks.{Talks}
-use Rattle.sk_weave.specs.Reads.{first_table}
+use Rattle.sk_linked.specs.Reads.{first_table}
 use Rattle.sk_linked.specs.Traces.{run_of}
 use Rattle.sk_linked.specs.Joining.{Counted, TablesFit, Apart}
 use Rattle.sk_model.specs.Texts.{texts_are_short}

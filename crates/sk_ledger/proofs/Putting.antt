@@ -140,9 +140,6 @@ pushed es fs tx w o n there is new q = ⊎_elim
 
 -- ---- an entry more in the map
 
-pub no_put : (es : List (Label × List Write)) (js : List Entry) (j : Entry) → put_of j ≡ None → HasPuts es js → HasPuts es (js ++ j ∷ [])
-no_put es js j none h q = h q ∙ sym (append-nil (puts_in_journal q js)) ∙ ap (λ p. puts_in_journal q js ++ put_by q p) (sym none) ∙ sym (one_more q js j)
-
 with_it : (b : Bool) (w : Write) (ws : List Write) → cond b (ws ++ w ∷ []) ws ≡ ws ++ cond b (w ∷ []) []
 with_it true w ws = refl
 with_it false w ws = sym (append-nil ws)

@@ -12,7 +12,7 @@ use Rattle.sk_model.specs.declared.call.Entry.{Entry}
 use Rattle.sk_model.specs.Database.{net}
 use Rattle.sk_model.specs.Talks.{wrote_in}
 use Rattle.sk_model.proofs.Lists.{Each, each_front, each_end}
-use Rattle.sk_weave.specs.Reads.{order_of}
+use Rattle.sk_linked.specs.Reads.{order_of}
 use Rattle.sk_weave.specs.Weave.{weave}
 use Rattle.sk_weave.specs.Woven.{IsWeavable}
 use Rattle.sk_linked.specs.Traces.{Transaction, Traces, commit_in, added, commits_in, run_of, In, Linked}

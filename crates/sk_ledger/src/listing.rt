@@ -1,7 +1,7 @@
 //! The commits of each engine, and the one list of a run.
 
 ghost use Rattle.std.specs.Prelude.{◌≡◌, IfOk};
-ghost use Rattle.sk_weave.specs.Reads.{order_of};
+ghost use Rattle.sk_linked.specs.Reads.{order_of};
 ghost use Rattle.sk_linked.specs.Traces.{run_of};
 ghost use Rattle.sk_linked.specs.Kept.{Play, traces_in};
 ghost use Rattle.sk_ledger.specs.Ledger.{committed_in, IsLeftBy};

@@ -21,6 +21,7 @@ use Rattle.sk_lex.specs.Laws.{IsLexed, words_of}
 use Rattle.sk_lex.specs.Scanning.{Scan, scan, scan_from, token, tokens, tokens_by}
 use Rattle.sk_lex.specs.Spelling.{can_be_spelled, digits, is_word, joined, key_text, mark_text, quoted, quoted_text, spell, spelled}
 use Rattle.sk_lex.proofs.Scans.{scan_goes}
+use Rattle.sk_lex.specs.Marks as mark
 
 -- ---- what may follow a printed word
 
@@ -277,10 +278,10 @@ pair_front a b rest is = elim (pair_first a b is) [
 ]
   where
     at_less : is_pair 60 b ≡ true → front (60 ∷ b ∷ rest) ≡ Ok (word.Mark 60 b, 2)
-    at_less e = ap (λ t. cond t (Ok (word.Mark 60 b, 2)) (cond (is_single 60) (Ok (word.Mark 60 0, 1)) (Err (misfit.Bad 0)))) e
+    at_less e = ap (λ t. cond t (Ok (word.Mark 60 b, 2)) (cond (is_single 60) (Ok (word.Mark mark.less mark.none, 1)) (Err (misfit.Bad 0)))) e
 
     at_more : is_pair 62 b ≡ true → front (62 ∷ b ∷ rest) ≡ Ok (word.Mark 62 b, 2)
-    at_more e = ap (λ t. cond t (Ok (word.Mark 62 b, 2)) (cond (is_single 62) (Ok (word.Mark 62 0, 1)) (Err (misfit.Bad 0)))) e
+    at_more e = ap (λ t. cond t (Ok (word.Mark 62 b, 2)) (cond (is_single 62) (Ok (word.Mark mark.greater mark.none, 1)) (Err (misfit.Bad 0)))) e
 
 mark_front : (a b : ℕ) (rest : Text) → can_be_spelled (word.Mark a b) ≡ true → Behind rest → front (mark_text a b ++ rest) ≡ Ok (word.Mark a b, length (mark_text a b))
 mark_front a b rest is stops = by (b == 0) refl is

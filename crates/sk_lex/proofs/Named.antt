@@ -3,7 +3,7 @@ use Rattle.std.proofs.Common.{◌≡◌, ℕ, Bool, true, false, cond, not, ◌&
 use Rattle.std.specs.Char.{to_ascii_lowercase}
 use Rattle.std.specs.List.{list_all, list_any}
 use Rattle.std.specs.Str.{bytes_eq, str_eq_ignore_ascii_case, str_to_ascii_lowercase}
-use Rattle.std.proofs.lemmas.Bool.{and_from, and_parts}
+use Rattle.std.proofs.lemmas.Bool.{and_from, and_parts, or_parts}
 use Rattle.std.proofs.lemmas.Bool.Decides.{nat_tests}
 use Rattle.sk_rows.specs.Names.{are_name_bytes, begins_with_digit, has_name_length, is_keyword, is_name, is_name_byte, keywords as row_keywords}
 use Rattle.sk_lex.specs.declared.front.Class.TheVariants as class
@@ -37,15 +37,11 @@ letters (b ∷ t) all =
     let parts = and_parts (is_name_byte b) (list_all is_name_byte t) all in
     and_from (is_in class.Letters b) (list_all (is_in class.Letters) t) (letter_byte b parts.0) (letters t parts.1)
 
-either_false : (a b : Bool) → (a || b) ≡ false → (a ≡ false) × (b ≡ false)
-either_false true b e = absurd cc
-either_false false b e = (refl, e)
-
 not_found : (table : List (Text × Keyword)) (t : Text) → str_to_ascii_lowercase t ≡ t → list_any (λ word. bytes_eq word t) (map (λ k. str_to_ascii_lowercase k.0) table) ≡ false
     → lookup table t ≡ None
 not_found [] t low none = refl
 not_found (k ∷ ks) t low none =
-    let parts = either_false (bytes_eq (str_to_ascii_lowercase k.0) t) (list_any (λ word. bytes_eq word t) (map (λ k. str_to_ascii_lowercase k.0) ks)) none in
+    let parts = or_parts (bytes_eq (str_to_ascii_lowercase k.0) t) (list_any (λ word. bytes_eq word t) (map (λ k. str_to_ascii_lowercase k.0) ks)) none in
     let here : str_eq_ignore_ascii_case k.0 t ≡ false = ap (bytes_eq (str_to_ascii_lowercase k.0)) low ∙ parts.0 in
     ap (λ b. cond b (Some k.1) (lookup ks t)) here ∙ not_found ks t low parts.1
 

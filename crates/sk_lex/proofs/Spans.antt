@@ -40,9 +40,6 @@ pub record Kept (line : Text) (found : List Token) (at : ℕ) (z : Text) : Type 
   pub left : z ≡ drop at line
   pub long : at + length z ≡ length line
 
-pub kept_start : (line : Text) → Kept line [] 0 line
-kept_start line = record { cut = tt; last = omega arith; blank = refl; left = refl; long = omega arith }
-
 blank_more : (line : Text) (from to : ℕ) (rest : Text) → from ≤ to → drop to line ≡ 32 ∷ rest → IsBlank (slice line from to) → IsBlank (slice line from (to + 1))
 blank_more line from to rest le next blank =
     let k = to - from in

@@ -18,9 +18,9 @@ use Rattle.sk_model.proofs.Labels.{same_is, same_itself}
 use Rattle.sk_weave.specs.Points.{Climbs, Pair}
 use Rattle.sk_weave.specs.Woven.{Over}
 use Rattle.sk_weave.specs.Registry.{first_of, live_of, greatest_within}
-use Rattle.sk_weave.specs.Reads.{Snapshots, number_at}
+use Rattle.sk_linked.specs.Reads.{Snapshots, number_at}
 use Rattle.sk_weave.proofs.Pairs.{pair_behind}
-use Rattle.sk_weave.proofs.Held.{Held, held_of, held_prefix}
+use Rattle.sk_linked.proofs.Held.{Held, held_of, held_prefix}
 use Rattle.sk_linked.specs.declared.event.Event.{Event}
 use Rattle.sk_linked.specs.declared.event.Event.TheVariants as event
 use Rattle.sk_linked.specs.declared.event.CoreReply.TheVariants as reply

@@ -31,7 +31,7 @@ use Rattle.sk_model.proofs.Lists.{Each}
 use Rattle.sk_model.proofs.Labels.{same_is, same_itself}
 use Rattle.sk_model.proofs.Order.{good_entries, good_start, legal_front}
 use Rattle.sk_model.proofs.Quiet.{step_keeps}
-use Rattle.sk_weave.specs.Reads.{number_at, first_table}
+use Rattle.sk_linked.specs.Reads.{number_at, first_table}
 use Rattle.sk_linked.specs.Traces.{Transaction, Traces, run_of, In, Linked}
 use Rattle.sk_linked.specs.Recorded.{HasTalk}
 use Rattle.sk_linked.specs.Causes.{Newest, InTheWay, Blocks, Caused, Ring}

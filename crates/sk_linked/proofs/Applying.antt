@@ -19,7 +19,7 @@ use Rattle.sk_model.proofs.Lists.{Each, each_append, each_weaker}
 use Rattle.sk_model.proofs.Labels.{same_is}
 use Rattle.sk_weave.specs.Points.{Staircase}
 use Rattle.sk_weave.specs.Registry.{Regs, IsSound, first_of}
-use Rattle.sk_weave.specs.Reads.{PairIf}
+use Rattle.sk_linked.specs.Reads.{PairIf}
 use Rattle.sk_linked.specs.declared.event.Event.{Event}
 use Rattle.sk_linked.specs.Traces.{drawn_at, Transaction, Traces, In, Belongs, Distinct, Linked}
 use Rattle.sk_linked.specs.State.{Both, of, Actor, transaction_of, Flush, Core, rest_of, traces_of, table_of, counter}

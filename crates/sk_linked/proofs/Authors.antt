@@ -25,10 +25,10 @@ use Rattle.sk_model.proofs.Quiet.{each_map_from}
 use Rattle.sk_weave.specs.Points.{before_a, before_b}
 use Rattle.sk_weave.specs.Weave.{with_writes, cross, mem_within, store_within, mem_past, store_past, weave_from}
 use Rattle.sk_weave.specs.Woven.{Part, parts_at, own_writes, parts}
-use Rattle.sk_weave.specs.Reads.{number_at, owns, order_of}
+use Rattle.sk_linked.specs.Reads.{number_at, owns, order_of}
 use Rattle.sk_weave.proofs.Parts.{part, part_n, past, rises_before, rises_parts, rises_filter, commit_part}
 use Rattle.sk_weave.proofs.Prefixes.{Fits}
-use Rattle.sk_weave.proofs.Held.{contents, order_fits}
+use Rattle.sk_linked.proofs.Held.{contents, order_fits}
 use Rattle.sk_linked.specs.Traces.{drawn_at, Transaction, Traces, commit_in, commits_in, run_of, In, Linked}
 use Rattle.sk_linked.specs.Headline.{Author, Stands}
 use Rattle.sk_linked.proofs.Members.{in_each, each_in, in_append, in_front, in_either, each_flat, unlike_same, distinct_same}

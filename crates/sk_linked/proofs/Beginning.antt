@@ -18,7 +18,7 @@ use Rattle.sk_model.proofs.Lists.{Each, each_weaker}
 use Rattle.sk_model.proofs.Labels.{same_itself}
 use Rattle.sk_model.proofs.Numbered.{filter_none}
 use Rattle.sk_weave.specs.Registry.{first_of}
-use Rattle.sk_weave.specs.Reads.{PairIf, snapshot_at}
+use Rattle.sk_linked.specs.Reads.{PairIf, snapshot_at}
 use Rattle.sk_linked.specs.declared.event.CoreReply.{CoreReply}
 use Rattle.sk_linked.specs.declared.event.Event.TheVariants as event
 use Rattle.sk_linked.specs.declared.event.CoreReply.TheVariants as reply

@@ -24,7 +24,7 @@ use Rattle.sk_model.proofs.Lists.{Each}
 use Rattle.sk_model.specs.EngineChanges.{change}
 use Rattle.sk_model.proofs.Labels.{same_is, same_itself}
 use Rattle.sk_model.proofs.Quiet.{step_keeps}
-use Rattle.sk_weave.specs.Reads.{snapshot_at, number_at, first_table}
+use Rattle.sk_linked.specs.Reads.{snapshot_at, number_at, first_table}
 use Rattle.sk_linked.specs.Traces.{drawn_at, Transaction, Traces, run_of, In, open_entry, close_entry, opens, NotAgain, Drew, Belongs, Linked}
 use Rattle.sk_linked.specs.Recorded.{HasTalk}
 use Rattle.sk_linked.specs.Causes.{Met, InTheWay, Blocks, Caused, Ring}

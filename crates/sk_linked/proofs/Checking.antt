@@ -3,7 +3,7 @@ use Rattle.std.specs.Prelude.{ℕ, Bool, true, false, cond, not, ◌&&◌, ◌||
 use Rattle.std.proofs.Common.{refl, sym, ap, subst, ◌∙◌, ⊎_elim}
 use Rattle.std.specs.List.{list_any, list_all}
 use Rattle.std.specs.Str.{bytes_eq}
-use Rattle.std.proofs.lemmas.Bool.{and_parts, cases_Bool, false≢true}
+use Rattle.std.proofs.lemmas.Bool.{and_parts, cases_Bool, false≢true, not-true, not-false, or_parts}
 use Rattle.std.proofs.lemmas.Slice.Eq.{bytes_eq-Decides}
 use Rattle.sk_rows.specs.declared.value.Sort.{Sort}
 use Rattle.sk_rows.specs.declared.value.Value.{Value}
@@ -35,21 +35,13 @@ use Rattle.sk_linked.proofs.Valuing.{IsOfSort, same_is, value_fits}
 apart : (a b : List ℕ) → bytes_eq a b ≡ false → bytes_eq b a ≡ false
 apart a b e = ⊎_elim (λ (t : bytes_eq b a ≡ true). absurd (false≢true (sym e ∙ (bytes_eq-Decides a b).1 (sym ((bytes_eq-Decides b a).0 t))))) (λ (f : bytes_eq b a ≡ false). f) (cases_Bool (bytes_eq b a))
 
-or_false : (x y : Bool) → (x || y) ≡ false → (x ≡ false) × (y ≡ false)
-or_false false y e = (refl, e)
-or_false true y e = absurd cc
-
 each_none : {X : Type 0} (p : X → Bool) (xs : List X) → list_any p xs ≡ false → Each (λ x. p x ≡ false) xs
 each_none p [] e = tt
-each_none p (x ∷ xs) e = let both : (p x ≡ false) × (list_any p xs ≡ false) = or_false _ _ e in (both.0, each_none p xs both.1)
+each_none p (x ∷ xs) e = let both : (p x ≡ false) × (list_any p xs ≡ false) = or_parts _ _ e in (both.0, each_none p xs both.1)
 
 each_all : {X : Type 0} (p : X → Bool) (xs : List X) → list_all p xs ≡ true → Each (λ x. p x ≡ true) xs
 each_all p [] e = tt
 each_all p (x ∷ xs) e = ((and_parts _ _ e).0, each_all p xs (and_parts _ _ e).1)
-
-not_true : (b : Bool) → not b ≡ true → b ≡ false
-not_true false e = refl
-not_true true e = absurd (false≢true e)
 
 -- a column behind another one is found behind it
 found_behind : (c : Column) (cs : List Column) (d : Column) → (bytes_eq d.name c.name ≡ false) × IsColumnOf cs d → IsColumnOf (c ∷ cs) d
@@ -64,7 +56,7 @@ found_first c cs = let same : bytes_eq c.name c.name ≡ true = (bytes_eq-Decide
 own_columns : (cs : List Column) → are_named cs ≡ true → Each (IsColumnOf cs) cs
 own_columns [] e = tt
 own_columns (c ∷ cs) e =
-    let unlike : has_column c.name cs ≡ false = not_true _ (and_parts _ _ (and_parts _ _ e).0).1 in
+    let unlike : has_column c.name cs ≡ false = not-true _ (and_parts _ _ (and_parts _ _ e).0).1 in
     let behind : Each (IsColumnOf cs) cs = own_columns cs (and_parts _ _ e).1 in
     (found_first c cs, each_weaker _ (IsColumnOf (c ∷ cs)) (found_behind c cs) cs (each_both (λ (d : Column). bytes_eq d.name c.name ≡ false) (IsColumnOf cs) cs (each_none (λ (d : Column). bytes_eq d.name c.name) cs unlike) behind))
 
@@ -77,7 +69,7 @@ first_some true x o e = absurd cc
 unset : (c : Column) (sets : List SetItem) → list_any (λ (s : SetItem). bytes_eq c.name s.column) sets ≡ false → find (λ (s : SetItem). bytes_eq s.column c.name) sets ≡ None
 unset c [] e = refl
 unset c (s ∷ ss) e =
-    let both : (bytes_eq c.name s.column ≡ false) × (list_any (λ (s : SetItem). bytes_eq c.name s.column) ss ≡ false) = or_false _ _ e in
+    let both : (bytes_eq c.name s.column ≡ false) × (list_any (λ (s : SetItem). bytes_eq c.name s.column) ss ≡ false) = or_parts _ _ e in
     let other : bytes_eq s.column c.name ≡ false = apart c.name s.column both.0 in
     rw other (unset c ss both.1)
 
@@ -108,10 +100,6 @@ new_value_fits columns sets set row c s v sorts short own found is =
     go (Ok t) q e k = subst (λ u. IsOfSort u v) (same_is t c.sort e) (value_fits columns row sorts short s.value t v k q is)
     go (Err f) q e k = absurd (false≢true e)
 
-not_false : (b : Bool) → not b ≡ false → b ≡ true
-not_false true e = refl
-not_false false e = absurd cc
-
 -- ---- what is not refused is checked
 
 inserts : (columns : List Column) (values : List Value) → insert_refusal columns values ≡ None → have_sorts values columns ≡ true
@@ -126,13 +114,13 @@ selects : (columns : List Column) (names : Option (List (List ℕ))) (e : Option
 unfolding select_refusal
 selects columns names e q =
     let first : (not (names_known columns names && cond_known columns e) ≡ false) × (_ ≡ None) = first_some _ _ _ q in
-    not_false _ (first_some _ _ _ first.1).0
+    not-false _ (first_some _ _ _ first.1).0
 
 deletes : (columns : List Column) (e : Option Expr) → delete_refusal columns e ≡ None → is_condition columns e ≡ true
 unfolding delete_refusal
 deletes columns e q =
     let first : (not (cond_known columns e) ≡ false) × (_ ≡ None) = first_some _ _ _ q in
-    not_false _ (first_some _ _ _ first.1).0
+    not-false _ (first_some _ _ _ first.1).0
 
 -- an UPDATE sets no key, and values of their columns' sorts where its condition is a truth
 record Updates (columns : List Column) (sets : List SetItem) (e : Option Expr) : Type 0 where
@@ -145,7 +133,7 @@ unfolding update_refusal
 updates columns sets e q =
     let first : (((not (sets_known columns sets && cond_known columns e)) || sets_twice sets) ≡ false) × (_ ≡ None) = first_some _ _ _ q in
     let second : (sets_key columns sets ≡ false) × (_ ≡ None) = first_some _ _ _ first.1 in
-    let third : (sets_sorts columns sets ≡ true) × (is_condition columns e ≡ true) = and_parts _ _ (not_false _ (first_some _ _ _ second.1).0) in
+    let third : (sets_sorts columns sets ≡ true) × (is_condition columns e ≡ true) = and_parts _ _ (not-false _ (first_some _ _ _ second.1).0) in
     record { unkeyed = second.0; sorts = third.0; condition = third.1 }
 
 -- the key that is read is of the sort of the table's key

@@ -15,7 +15,7 @@ use Rattle.sk_model.proofs.Lists.{Each}
 use Rattle.sk_model.proofs.Numbers.{none_pass}
 use Rattle.sk_model.proofs.Nets.{each_net}
 use Rattle.sk_weave.specs.Woven.{own_writes}
-use Rattle.sk_weave.specs.Reads.{owns}
+use Rattle.sk_linked.specs.Reads.{owns}
 use Rattle.sk_linked.specs.Traces.{drawn_at, Transaction, commit_in, counts, placed, added, commits_in, In, DrewUnlike}
 use Rattle.sk_linked.proofs.Members.{each_in, some_clash, some_same}
 

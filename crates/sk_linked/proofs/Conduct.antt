@@ -21,7 +21,7 @@ use Rattle.sk_model.specs.Records.{is_committed, some_writes}
 use Rattle.sk_model.specs.Talks.{OwnCall, Talk, same_engine, calls_in, wrote_by, wrote_in, opened}
 use Rattle.sk_model.specs.RecordTalks.{number_or_none, is_check, commit_made, Outdone, Talks}
 use Rattle.sk_model.proofs.Lists.{Each, each_append, each_end}
-use Rattle.sk_weave.specs.Reads.{snapshot_at, PairIf}
+use Rattle.sk_linked.specs.Reads.{snapshot_at, PairIf}
 use Rattle.sk_weave.specs.Woven.{At}
 use Rattle.sk_linked.specs.Traces.{drawn_at, Transaction, In, IsOwn, open_entry, close_entry, stamp_entry}
 use Rattle.sk_linked.specs.Recorded.{HasTalk}

@@ -15,7 +15,7 @@ use Rattle.sk_model.specs.Talks.{calls_in, wrote_in, is_by}
 use Rattle.sk_model.proofs.Lists.{Each, each_weaker}
 use Rattle.sk_weave.specs.Points.{commit_point}
 use Rattle.sk_weave.specs.Registry.{Regs, IsSound, first_of, drawn, passes, after_check}
-use Rattle.sk_weave.specs.Reads.{PairIf, number_at}
+use Rattle.sk_linked.specs.Reads.{PairIf, number_at}
 use Rattle.sk_weave.proofs.Registers.{steps_all_sound, take_steps}
 use Rattle.sk_linked.specs.declared.event.Event.TheVariants as event
 use Rattle.sk_linked.specs.declared.event.CoreReply.TheVariants as reply

@@ -24,7 +24,7 @@ use Rattle.sk_weave.specs.declared.answer.DrawFault.TheVariants.{Spent, Early}
 use Rattle.sk_weave.specs.Points.{last_from, pick}
 use Rattle.sk_weave.specs.Registry.{Regs, no_point, oldest_of, last_of, selected, drawn, checked}
 use Rattle.sk_weave.specs.RegistryLaws.{IsRecycled}
-use Rattle.sk_weave.specs.Reads.{number_at}
+use Rattle.sk_linked.specs.Reads.{number_at}
 use Rattle.sk_weave.proofs.Registers.{recycled_right}
 use Rattle.sk_linked.specs.Traces.{Transaction, Traces, In, MakerOf, IsAtHorizons, Belongs, Linked}
 use Rattle.sk_linked.specs.State.{counter}

@@ -1,7 +1,7 @@
 -- Each event of a transaction that draws and commits nothing keeps the invariant.
 use Rattle.std.specs.Prelude.{ℕ, List, [], ◌∷◌, ◌++◌, Option, Some, None, Bool, true, false, not, ◌&&◌, ◌≡◌, ◌⊎◌, is_some}
 use Rattle.std.proofs.Common.{refl, sym, ap, subst, ◌∙◌, inl, inr, ⊎_elim}
-use Rattle.std.proofs.lemmas.Bool.{cond_both, false≢true, and_parts}
+use Rattle.std.proofs.lemmas.Bool.{cond_both, false≢true, and_parts, not-true}
 use Rattle.std.proofs.lemmas.List.{append-nil}
 use Rattle.std.proofs.lemmas.List.Concat.{flat_map-append}
 use Rattle.sk_rows.specs.declared.value.Value.{Value}
@@ -26,7 +26,7 @@ use Rattle.sk_model.specs.Talks.{calls_in, wrote_by, wrote_in, tx_of, is_tx, is_
 use Rattle.sk_model.proofs.Lists.{Each, each_weaker, each_filter}
 use Rattle.sk_model.proofs.Labels.{same_is, same_itself}
 use Rattle.sk_weave.specs.Registry.{Regs, IsSound, first_of, last_of}
-use Rattle.sk_weave.specs.Reads.{Snapshots, snapshot_at, PairIf, first_table}
+use Rattle.sk_linked.specs.Reads.{Snapshots, snapshot_at, PairIf, first_table}
 use Rattle.sk_linked.specs.declared.event.Event.{Event}
 use Rattle.sk_linked.specs.declared.event.Event.TheVariants as event
 use Rattle.sk_linked.specs.declared.event.CoreReply.{CoreReply}
@@ -144,16 +144,12 @@ none_false Store e = absurd (false≢true e)
 
 -- ---- guards
 
-pub off : (b : Bool) → not b ≡ true → b ≡ false
-off true e = absurd (false≢true e)
-off false e = refl
-
 pub none_is : {X : Type 0} (o : Option X) → not (is_some o) ≡ true → o ≡ None
 none_is None e = refl
 none_is (Some x) e = absurd (false≢true e)
 
 pub is_live : (r : Actor) → is_undrawn r ≡ true → r.committed ≡ false
-is_live r e = off r.committed (and_parts (not r.committed) (not (is_some r.drew.mem) && not (is_some r.drew.store)) e).0
+is_live r e = not-true r.committed (and_parts (not r.committed) (not (is_some r.drew.mem) && not (is_some r.drew.store)) e).0
 
 pub none_drawn : (r : Actor) → is_undrawn r ≡ true → (s : EngineName) → drawn_at s r.drew ≡ None
 none_drawn r e Mem = none_is r.drew.mem (and_parts (not (is_some r.drew.mem)) (not (is_some r.drew.store)) (and_parts (not r.committed) (not (is_some r.drew.mem) && not (is_some r.drew.store)) e).1).0
@@ -163,8 +159,8 @@ pub undrawn_of : (r : Actor) → is_untouched r ≡ true → is_undrawn r ≡ tr
 undrawn_of r e = (and_parts (is_undrawn r) (not r.shut.mem && not r.shut.store) e).0
 
 pub none_shut : (r : Actor) → is_untouched r ≡ true → (s : EngineName) → of s r.shut ≡ false
-none_shut r e Mem = off r.shut.mem (and_parts (not r.shut.mem) (not r.shut.store) (and_parts (is_undrawn r) (not r.shut.mem && not r.shut.store) e).1).0
-none_shut r e Store = off r.shut.store (and_parts (not r.shut.mem) (not r.shut.store) (and_parts (is_undrawn r) (not r.shut.mem && not r.shut.store) e).1).1
+none_shut r e Mem = not-true r.shut.mem (and_parts (not r.shut.mem) (not r.shut.store) (and_parts (is_undrawn r) (not r.shut.mem && not r.shut.store) e).1).0
+none_shut r e Store = not-true r.shut.store (and_parts (not r.shut.mem) (not r.shut.store) (and_parts (is_undrawn r) (not r.shut.mem && not r.shut.store) e).1).1
 
 -- ---- a plan that neither draws nor commits
 

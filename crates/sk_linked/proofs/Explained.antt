@@ -33,7 +33,7 @@ use Rattle.sk_weave.specs.declared.answer.Selected.{Selected}
 use Rattle.sk_weave.specs.declared.answer.DrawFault.{DrawFault}
 use Rattle.sk_weave.specs.declared.answer.DrawFault.TheVariants.{Spent, Early}
 use Rattle.sk_weave.specs.Registry.{passes, selected, drawn}
-use Rattle.sk_weave.specs.Reads.{view_at}
+use Rattle.sk_linked.specs.Reads.{view_at}
 use Rattle.sk_linked.specs.declared.event.Event.{Event}
 use Rattle.sk_linked.specs.declared.event.Event.TheVariants as event
 use Rattle.sk_linked.specs.declared.event.CoreReply.{CoreReply}

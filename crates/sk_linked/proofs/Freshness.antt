@@ -2,7 +2,7 @@
 use Rattle.std.specs.Prelude.{ℕ, List, [], ◌∷◌, ◌++◌, Option, Some, None, Result, Ok, Err, Bool, true, false, cond, not, ◌&&◌, ◌+◌, ◌-◌, ◌≡◌, ◌<◌, ◌≤◌, is_some, nat_lt, length}
 use Rattle.std.proofs.Common.{refl, sym, ap, subst, ◌∙◌, ⊎_elim, arith}
 use Rattle.std.specs.List.{filter}
-use Rattle.std.proofs.lemmas.Bool.{cases_Bool, cond_both, cond-true, cond-false, false≢true, and_parts}
+use Rattle.std.proofs.lemmas.Bool.{cases_Bool, cond_both, cond-true, cond-false, false≢true, and_parts, not-true}
 use Rattle.sk_rows.specs.declared.value.Value.{Value}
 use Rattle.sk_model.specs.declared.label.Label.{Label}
 use Rattle.sk_model.specs.declared.engine.EngineName.{EngineName}
@@ -28,7 +28,7 @@ use Rattle.sk_weave.specs.Points.{selection, commit_point, Pair, before_b}
 use Rattle.sk_weave.proofs.Aheads.{ahead_stays, fresh as not_before}
 use Rattle.sk_weave.proofs.Registers.{selected_pair}
 use Rattle.sk_weave.specs.Registry.{Regs, IsSound, selected, after_selection, drawn, passes, after_check}
-use Rattle.sk_weave.specs.Reads.{snapshot_at}
+use Rattle.sk_linked.specs.Reads.{snapshot_at}
 use Rattle.sk_linked.specs.declared.event.Event.{Event}
 use Rattle.sk_linked.specs.declared.event.Event.TheVariants as event
 use Rattle.sk_linked.specs.declared.event.CoreReply.{CoreReply}
@@ -41,7 +41,7 @@ use Rattle.sk_linked.specs.Invariant.{Invariant}
 use Rattle.sk_linked.proofs.Members.{in_each, each_in, some_clash, some_same}
 use Rattle.sk_linked.proofs.Moving.{select_counter, select_sound, Moves, whole, first_drawn, points_drawn, select_moves, check_is, append_moves, drawn_ok}
 use Rattle.sk_linked.proofs.Applying.{Other, each_put_actor}
-use Rattle.sk_linked.proofs.Events.{off, none_is}
+use Rattle.sk_linked.proofs.Events.{none_is}
 use Rattle.sk_linked.proofs.Deciding.{draw_moves}
 use Rattle.sk_linked.proofs.Seeing.{counters, SeesAt, Sees, Later, SawAt, Follow, Counted, Freshly, pairs_put, count_grows}
 
@@ -316,7 +316,7 @@ module _ (k : Core) (inv : Invariant k) (h : Freshly k) (r : Actor) (i : In r k.
       draw_deltas (next_not_over (draw_of name) r.wrote r.stage parts.0) name parts.1 (drawn (counter name k.regs) (floor_in k r name)) refl)
   deltas (event.Check tx) = deltas_when k r (may_check r) _ (λ y. check_deltas (next_not_over names.Check r.wrote r.stage (and_parts (comes_next names.Check (todo r)) _ y).0) r.drew.mem refl r.drew.store refl)
   deltas (event.Stamp tx name) = deltas_when k r (may_stamp_now r name) _ (λ y. stamp_deltas (next_not_over (stamp_of name) r.wrote r.stage (and_parts (comes_next (stamp_of name) (todo r)) _ y).0) name (drawn_at name r.drew))
-  deltas (event.Leave tx name) = deltas_when k r (may_leave r) _ (λ y. calm (off (is_over r.stage) (and_parts (not (is_over r.stage)) (is_undrawn r) y).0) _ _ r.wrote both_false r.committed (stage_left (is_some (opening_of (table_of k (other name)) r.label))) ending.RolledBack r.made)
+  deltas (event.Leave tx name) = deltas_when k r (may_leave r) _ (λ y. calm (not-true (is_over r.stage) (and_parts (not (is_over r.stage)) (is_undrawn r) y).0) _ _ r.wrote both_false r.committed (stage_left (is_some (opening_of (table_of k (other name)) r.label))) ending.RolledBack r.made)
   deltas event.Cut = tt
   deltas event.FlushStep = tt
   deltas (event.Purge name) = tt

@@ -22,7 +22,7 @@ use Rattle.sk_model.proofs.Lists.{Each, each_append, each_weaker, each_both, eac
 use Rattle.sk_model.proofs.Labels.{same_itself}
 use Rattle.sk_weave.specs.Points.{commit_point}
 use Rattle.sk_weave.specs.Woven.{At}
-use Rattle.sk_weave.specs.Reads.{Snapshots, snapshot_at, PairIf, number_at}
+use Rattle.sk_linked.specs.Reads.{Snapshots, snapshot_at, PairIf, number_at}
 use Rattle.sk_linked.specs.Traces.{Drawn, drawn_at, Transaction, Traces, stamp_entry, is_stamp, has_stamped, stamp_if, owed_by, IsOwn, opens, NotAgain, close_entry, Drew, Belongs, open_entry, In}
 use Rattle.sk_linked.specs.Invariant.{Shut}
 use Rattle.sk_linked.proofs.Projection.{cons_head, cons_tail, nil_append}

@@ -32,8 +32,8 @@ use Rattle.sk_model.proofs.Labels.{same_itself, not_same_back}
 use Rattle.sk_model.proofs.Quiet.{step_keeps, each_put, each_map_from}
 use Rattle.sk_model.proofs.Order.{good_start}
 use Rattle.sk_weave.specs.Woven.{MemOk, StoreOk, CrossOk, MatchedAt, Matched, own_writes}
-use Rattle.sk_weave.specs.Reads.{owns, number_at, IsRun, first_table}
-use Rattle.sk_weave.proofs.Writers.{each_unfilter}
+use Rattle.sk_linked.specs.Reads.{owns, number_at, IsRun, first_table}
+use Rattle.sk_linked.proofs.Writers.{each_unfilter}
 use Rattle.sk_linked.specs.Traces.{drawn_at, Transaction, Traces, commit_in, commits_in, run_of, stamp_entry, owes, stamp_if, owed_by, owed, In, IsOwn, close_entry, Drew, Belongs, Distinct, DrewUnlike, CommitOf, Whose, Known, Linked}
 use Rattle.sk_linked.proofs.Projection.{SplitBy, split_by, cons_tail, nil_cons, none_pass_filter, each_of_own, ends_by, puts_by}
 use Rattle.sk_linked.proofs.Others.{NotUse, may_stamp_stays, may_stamp}
@@ -86,10 +86,6 @@ module _ (P : ℕ → Type 0) where
   pub numbers_stay : (e : EngineTable) (js : List Entry) → Each (λ (j : Entry). StampHas P j.call) js → Each Numbers e.versions → Each Numbers (after_entries e js).versions
   numbers_stay e [] k h = h
   numbers_stay e (j ∷ js) k h = numbers_stay (step e j) js k.1 (step_keeps (λ (f : EngineTable). Each Numbers f.versions) e j h (λ m r. numbers_change e j.call k.0 h))
-
--- the stamps that are owed
-stamp_by : (l : Label) (n : ℕ) → is_by l (stamp_entry l n) ≡ true
-stamp_by l n = same_itself l
 
 owed_own : (s : EngineName) (r : Transaction) → entries_by r.label (owed_by s r) ≡ owed_by s r
 owed_own s r = go (owes s r) (drawn_at s r.drew)

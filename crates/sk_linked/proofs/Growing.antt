@@ -18,7 +18,7 @@ use Rattle.sk_model.proofs.Labels.{same_is, not_same_back}
 use Rattle.sk_model.proofs.Numbered.{filter_none}
 use Rattle.sk_weave.specs.Points.{Staircase}
 use Rattle.sk_weave.specs.Woven.{At}
-use Rattle.sk_weave.specs.Reads.{PairIf, first_table}
+use Rattle.sk_linked.specs.Reads.{PairIf, first_table}
 use Rattle.sk_weave.proofs.Pairs.{pair_stays}
 use Rattle.sk_linked.specs.Traces.{drawn_at, Transaction, Traces, run_of, In, Belongs, Distinct, DrewUnlike, CommitOf, Known, PointsMade, Linked}
 use Rattle.sk_linked.proofs.Members.{in_each, each_in}

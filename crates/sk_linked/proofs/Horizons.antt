@@ -13,7 +13,7 @@ use Rattle.sk_model.specs.EngineChanges.{change}
 use Rattle.sk_model.specs.Legal.{step, after_entries}
 use Rattle.sk_model.proofs.Lists.{Each, each_weaker, each_front}
 use Rattle.sk_model.proofs.Quiet.{step_keeps}
-use Rattle.sk_weave.specs.Reads.{first_table}
+use Rattle.sk_linked.specs.Reads.{first_table}
 use Rattle.sk_linked.specs.Traces.{drawn_at, Transaction, run_of, owed, In}
 use Rattle.sk_linked.specs.State.{of, Actor, Core, traces_of, table_of, counter}
 use Rattle.sk_linked.specs.Invariant.{IsKept, Invariant}

@@ -2,7 +2,7 @@
 use Rattle.std.specs.Prelude.{ℕ, ◌<◌, ◌≤◌, ◌+◌, List, [], ◌∷◌, ◌++◌, Option, Some, None, Bool, true, false, ◌&&◌, ◌==◌, ◌≡◌}
 use Rattle.std.proofs.Common.{refl, sym, ap, subst, ◌∙◌, inl, inr, ⊎_elim, arith}
 use Rattle.std.specs.List.{filter, flat_map}
-use Rattle.std.proofs.lemmas.Bool.{cases_Bool, cond-true, cond-false, false≢true, ne_eqb}
+use Rattle.std.proofs.lemmas.Bool.{cases_Bool, cond-true, cond-false, false≢true, ne_eqb, and_right}
 use Rattle.sk_model.specs.declared.label.Label.{Label}
 use Rattle.sk_model.specs.declared.engine.EngineName.{EngineName}
 use Rattle.sk_model.specs.declared.engine.EngineName.TheVariants.{Mem}
@@ -18,8 +18,8 @@ use Rattle.sk_model.specs.Talks.{calls_in, tx_of, is_tx, is_by, entries_by}
 use Rattle.sk_model.proofs.Lists.{Each, each_append, each_weaker, filter_twice}
 use Rattle.sk_model.proofs.Labels.{same_is, same_itself}
 use Rattle.sk_weave.specs.Woven.{At}
-use Rattle.sk_weave.specs.Reads.{number_at, first_table}
-use Rattle.sk_weave.proofs.Writers.{each_unfilter}
+use Rattle.sk_linked.specs.Reads.{number_at, first_table}
+use Rattle.sk_linked.proofs.Writers.{each_unfilter}
 use Rattle.sk_linked.specs.Traces.{Transaction, Traces, run_of, In, IsOwn, close_entry, Belongs, Distinct, CommitOf, Known, Linked}
 use Rattle.sk_linked.specs.Joining.{Unopened, CallsInTurn, CallsFit, Share, Counted, Ends, Behaves, Own, in_session, session_entries, all_transactions, Apart, Heard, Joined, AllOwn, LinkedOfOwn}
 use Rattle.sk_linked.proofs.Members.{in_each, each_in, in_append, in_front, in_either, each_flat, some_clash, each_call, unlike_same}
@@ -60,15 +60,11 @@ counted_each session k (t ∷ ts) c = (
     lower : (n : ℕ) → k + 1 ≤ n → k ≤ n
     lower n h = omega arith
 
-and_off : (a b : Bool) → b ≡ false → (a && b) ≡ false
-and_off true b e = e
-and_off false b e = refl
-
 distinct_counted : (session k : ℕ) (ts : List Transaction) → Counted session k ts → Distinct ts
 distinct_counted session k [] c = tt
 distinct_counted session k (t ∷ ts) c = (
   each_weaker _ (λ (u : Transaction). same_label t.label u.label ≡ false)
-      (λ u h. and_off (t.label.session == u.label.session) (t.label.k == u.label.k) (ne_eqb t.label.k u.label.k (λ q. past t.label.k u.label.k (ap (λ (l : Label). l.k) c.0) h.1 q)))
+      (λ u h. and_right (t.label.session == u.label.session) (t.label.k == u.label.k) (ne_eqb t.label.k u.label.k (λ q. past t.label.k u.label.k (ap (λ (l : Label). l.k) c.0) h.1 q)))
       ts (counted_each session (k + 1) ts c.1),
   distinct_counted session (k + 1) ts c.1,
 )

@@ -32,7 +32,7 @@ use Rattle.sk_model.specs.Replies.{insert_refusal}
 use Rattle.sk_model.specs.Talks.{Talk, calls_in, tx_of, entries_by}
 use Rattle.sk_model.specs.RecordTalks.{Talks}
 use Rattle.sk_weave.specs.Points.{selection}
-use Rattle.sk_weave.specs.Reads.{first_table}
+use Rattle.sk_linked.specs.Reads.{first_table}
 use Rattle.sk_linked.specs.Traces.{Transaction, run_of, In, DrewUnlike, Whose, Known}
 use Rattle.sk_linked.specs.Joining.{TablesFit, MayRecords}
 use Rattle.sk_linked.proofs.Members.{some_clash}

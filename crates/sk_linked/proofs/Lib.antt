@@ -1,3 +1,8 @@
+-- what a transaction reads and writes over the list: theory for others too
+pub mod Held
+pub mod Keys
+pub mod Writers
+pub mod Wins
 -- lists and who is in them; one transaction's calls in an engine's journal
 pub mod Members
 pub mod Projection
@@ -70,6 +75,7 @@ pub mod Next
 pub mod StepsTaken
 pub mod Taken
 -- worked examples
+mod ReadExamples
 mod PlayedExamples
 mod SharedExamples
 mod KeptExamples

@@ -5,7 +5,7 @@ use Rattle.std.specs.List.{filter, find as find_first}
 use Rattle.std.specs.declared.cmp.Ordering.{Ordering}
 use Rattle.std.specs.declared.cmp.Ordering.TheVariants.{Less, Equal, Greater}
 use Rattle.std.specs.Ordering.{ordering_reverse}
-use Rattle.std.proofs.lemmas.Bool.{and_parts, and_from, cases_Bool, false≢true, lt-ltb, ltb-true, eq-eqb, eqb-true}
+use Rattle.std.proofs.lemmas.Bool.{and_parts, and_from, cases_Bool, false≢true, lt-ltb, ltb-true, eq-eqb, eqb-true, not-true}
 use Rattle.sk_rows.specs.declared.value.Value.{Value}
 use Rattle.sk_rows.specs.Values.{value_cmp}
 use Rattle.sk_rows.specs.Orders.{value_cmp_total}
@@ -25,10 +25,6 @@ use Rattle.sk_model.proofs.Lookups.{hits_is}
 use Rattle.sk_linked.specs.Traces.{In}
 use Rattle.sk_linked.specs.Causes.{Rival, NoneUndecided, InTheWay, Holds, Blocks}
 use Rattle.sk_linked.proofs.Members.{each_in}
-
-not_true : (b : Bool) → not b ≡ true → b ≡ false
-not_true false e = refl
-not_true true e = absurd (false≢true e)
 
 fault_is : {f g : EngineFault} → ◌≡◌ {A = EngineReply} (answer.Fault f) (answer.Fault g) → f ≡ g
 fault_is e = cc
@@ -154,7 +150,7 @@ module _ (e : EngineTable) (tx : Label) where
   holds_of t v table b = go v.standing refl (and_parts _ _ b).1
     where
       go : (s : VersionState) → v.standing ≡ s → is_closed_below (snapshot_of e tx) s ≡ true → Holds e tx t v
-      go (Closed f) is k = record { table = table; apart = not_true _ (and_parts _ _ b).0; floor = f; closed = is; below = ltb-true f (snapshot_of e tx) k }
+      go (Closed f) is k = record { table = table; apart = not-true _ (and_parts _ _ b).0; floor = f; closed = is; below = ltb-true f (snapshot_of e tx) k }
       go Open is k = absurd (false≢true k)
       go (Stamped n) is k = absurd (false≢true k)
       go Dropped is k = absurd (false≢true k)
@@ -267,7 +263,7 @@ module _ (e : EngineTable) (tx : Label) where
           others = and_parts (not (same_label tx v.by)) (is_undecided v.standing) parts.1
 
           rival : Rival e tx t key v.by
-          rival = record { version = v; among = found.0; row = parts.0; author = refl; apart = not_true (same_label tx v.by) others.0 }
+          rival = record { version = v; among = found.0; row = parts.0; author = refl; apart = not-true (same_label tx v.by) others.0 }
 
           standing : (s : VersionState) → v.standing ≡ s → is_undecided s ≡ true → answer.Fault (fault.Conflict v.by (why_undecided v.standing)) ≡ answer.Fault f → (by : Label) × (reason : Why) × (f ≡ fault.Conflict by reason) × InTheWay e tx t key by reason
           standing Open is u r = (v.by, why.Open, sym (fault_is r) ∙ ap (λ s. fault.Conflict v.by (why_undecided s)) is, (rival, is))

@@ -14,7 +14,7 @@ use Rattle.sk_weave.specs.declared.answer.DrawFault.TheVariants.{Spent, Early}
 use Rattle.sk_weave.specs.declared.event.Event.TheVariants.{DrawMem, DrawStore, Append, Raise}
 use Rattle.sk_weave.specs.Points.{selection, commit_point, Climbs, Staircase, last_from}
 use Rattle.sk_weave.specs.Registry.{Regs, first_of, last_of, is_full, after_all, IsSound, append_steps, appended, selected, selection_steps, after_selection, drawn, draw_steps, passes, after_check, makes_cut, after_cut}
-use Rattle.sk_weave.specs.Reads.{number_at}
+use Rattle.sk_linked.specs.Reads.{number_at}
 use Rattle.sk_weave.proofs.Registers.{points_after_append, steps_all_sound, take_steps, last_there}
 use Rattle.sk_linked.specs.State.{rest_of, counter}
 

@@ -19,7 +19,7 @@ use Rattle.sk_model.specs.Talks.{calls_in, wrote_by, wrote_in, tx_of, is_tx, is_
 use Rattle.sk_model.proofs.Lists.{Each, each_weaker, each_front}
 use Rattle.sk_model.proofs.Labels.{same_itself, same_is, not_same_back}
 use Rattle.sk_model.proofs.Quiet.{step_keeps}
-use Rattle.sk_weave.specs.Reads.{snapshot_at, first_table}
+use Rattle.sk_linked.specs.Reads.{snapshot_at, first_table}
 use Rattle.sk_linked.specs.Traces.{drawn_at, Transaction, run_of, In, IsOwn, Whose, Known, Drew, Belongs, close_entry, owed}
 use Rattle.sk_linked.specs.State.{of, Actor, transaction_of, Core, traces_of, table_of, counter}
 use Rattle.sk_linked.specs.Invariant.{Shut, IsKept, Invariant}

@@ -13,7 +13,7 @@ use Rattle.sk_model.specs.Talks.{tx_of, is_tx, is_by, entries_by}
 use Rattle.sk_model.proofs.Lists.{Each, each_append, each_weaker}
 use Rattle.sk_model.proofs.Numbered.{filter_none}
 use Rattle.sk_weave.specs.Points.{Staircase}
-use Rattle.sk_weave.specs.Reads.{first_table}
+use Rattle.sk_linked.specs.Reads.{first_table}
 use Rattle.sk_linked.specs.Traces.{Transaction, Traces, run_of, In, Belongs, CommitOf, Known, IsAtHorizons, MakerOf, PointsMade, Linked}
 use Rattle.sk_linked.proofs.Members.{in_front}
 use Rattle.sk_linked.proofs.Grounds.{legal_append, allowed_append}

@@ -357,10 +357,6 @@ pub allowed_front : (e : EngineTable) (js more : List Entry) → Allowed e (js +
 allowed_front e [] more h = (tt, h)
 allowed_front e (j ∷ js) more h = let k : Allowed (step e j) js × Allowed (after_entries (step e j) js) more = allowed_front (step e j) js more h.1 in ((h.0, k.0), k.1)
 
-pub allowed_push : (e : EngineTable) (js : List Entry) (j : Entry) → Allowed e js → may (after_entries e js) j.call ≡ true → Allowed e (js ++ j ∷ [])
-allowed_push e [] j h m = (m, tt)
-allowed_push e (i ∷ js) j h m = (h.0, allowed_push (step e i) js j h.1 m)
-
 pub standing_snapshot : (a : Option ℕ) (o : Option Opening) → HasSnapshot a o → is_standing o ≡ true → a ≡ Some (snapshot_in o)
 standing_snapshot a None h m = absurd (false≢true m)
 standing_snapshot a (Some o) h m = h

@@ -31,7 +31,7 @@ use Rattle.sk_model.specs.Talks.{Talk, call_in, calls_in, wrote_by, wrote_in, pu
 use Rattle.sk_model.proofs.Lists.{Each, each_front, each_end}
 use Rattle.sk_model.proofs.Reading.{name_stays, catalog_stays}
 use Rattle.sk_weave.specs.Woven.{own_writes}
-use Rattle.sk_weave.specs.Reads.{owns}
+use Rattle.sk_linked.specs.Reads.{owns}
 
 -- done, or refused
 abbrev DoneOr : EngineReply → Type 0

@@ -26,7 +26,7 @@ use Rattle.sk_model.proofs.Lookups.{hits_itself}
 use Rattle.sk_model.proofs.Nets.{net_row}
 use Rattle.sk_model.proofs.TalksTold.{talks_told, talks_wrote}
 use Rattle.sk_weave.specs.Woven.{parts_at, own_writes, parts}
-use Rattle.sk_weave.specs.Reads.{number_at, owns, order_of, view_at, AreSorted}
+use Rattle.sk_linked.specs.Reads.{number_at, owns, order_of, view_at, AreSorted}
 use Rattle.sk_weave.proofs.Parts.{part_n}
 use Rattle.sk_linked.specs.Traces.{drawn_at, Transaction, Traces, run_of, In, Drew, Distinct, close_entry, Linked}
 use Rattle.sk_linked.specs.Headline.{Author, Stands, place_of, Headline, WinsFirst}

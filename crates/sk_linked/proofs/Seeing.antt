@@ -9,7 +9,7 @@ use Rattle.sk_model.specs.Records.{same_label}
 use Rattle.sk_model.proofs.Lists.{Each, each_weaker, each_both}
 use Rattle.sk_weave.specs.Registry.{Regs}
 use Rattle.sk_weave.specs.AheadLaws.{Counters, AreAhead}
-use Rattle.sk_weave.specs.Reads.{Snapshots, snapshot_at}
+use Rattle.sk_linked.specs.Reads.{Snapshots, snapshot_at}
 use Rattle.sk_linked.specs.Traces.{Drawn, drawn_at, Distinct}
 use Rattle.sk_linked.specs.State.{Both, of, Stage, Actor, transaction_of, Core, counter}
 use Rattle.sk_linked.specs.Plans.{is_over, of_session}

@@ -2,7 +2,7 @@
 use Rattle.std.specs.Prelude.{ℕ, zero, suc, List, [], ◌∷◌, Option, Some, None, Bool, true, false, cond, not, ◌&&◌, ◌||◌, ◌==◌, ◌+◌, ◌≡◌, ◌<◌, ◌≤◌, length, map}
 use Rattle.std.proofs.Common.{refl, sym, ap, arith}
 use Rattle.std.specs.List.{filter, list_any}
-use Rattle.std.proofs.lemmas.Bool.{cond_both, false≢true, and_parts, eqb-true, eq-eqb}
+use Rattle.std.proofs.lemmas.Bool.{cond_both, false≢true, and_parts, eqb-true, eq-eqb, not-true}
 use Rattle.sk_model.specs.declared.label.Label.{Label}
 use Rattle.sk_model.specs.declared.engine.EngineName.{EngineName}
 use Rattle.sk_model.specs.declared.engine.EngineName.TheVariants.{Mem, Store}
@@ -19,7 +19,7 @@ use Rattle.sk_model.specs.EngineReplies.{horizon_of}
 use Rattle.sk_model.proofs.Lists.{Each, each_weaker, each_both, each_map}
 use Rattle.sk_weave.specs.Points.{selection}
 use Rattle.sk_weave.specs.Registry.{Regs, live_of, after_cut, makes_cut, greatest_within}
-use Rattle.sk_weave.specs.Reads.{snapshot_at}
+use Rattle.sk_linked.specs.Reads.{snapshot_at}
 use Rattle.sk_linked.specs.declared.event.Event.{Event}
 use Rattle.sk_linked.specs.declared.event.Event.TheVariants as event
 use Rattle.sk_linked.specs.declared.event.CoreReply.{CoreReply}
@@ -49,10 +49,6 @@ none_any p (r ∷ rs) e = go (p r) refl e (λ f. none_any p rs f)
     go true q f ih = absurd (false≢true (sym f))
     go false q f ih = (q, ih f)
 
-off : (b : Bool) → not b ≡ true → b ≡ false
-off true e = absurd (false≢true e)
-off false e = refl
-
 or_over : (a o : Bool) → (a && not o) ≡ false → a ≡ true → o ≡ true
 or_over a true e t = refl
 or_over true false e t = absurd (false≢true (sym e))
@@ -70,7 +66,7 @@ module _ (k : Core) (inv : Invariant k) (h : Freshly k) (tx : Label) (none : act
   others = not_there tx k.actors none
 
   quiet : Each (λ (x : Actor). (of_session tx x && not (is_over x.stage)) ≡ false) k.actors
-  quiet = none_any (λ x. of_session tx x && not (is_over x.stage)) k.actors (off (list_any (λ x. of_session tx x && not (is_over x.stage)) k.actors) (and_parts _ (tx.k == length (filter (of_session tx) k.actors) + 1) next).0)
+  quiet = none_any (λ x. of_session tx x && not (is_over x.stage)) k.actors (not-true (list_any (λ x. of_session tx x && not (is_over x.stage)) k.actors) (and_parts _ (tx.k == length (filter (of_session tx) k.actors) + 1) next).0)
 
   number : tx.k ≡ length (filter (of_session tx) k.actors) + 1
   number = eqb-true tx.k (length (filter (of_session tx) k.actors) + 1) (and_parts (not (list_any (λ x. of_session tx x && not (is_over x.stage)) k.actors)) (tx.k == length (filter (of_session tx) k.actors) + 1) next).1
@@ -205,9 +201,6 @@ cut_taken_fresh k h None = record { sees = h.sees; later = h.later; follows = h.
 cut_taken_fresh k h (Some q) = cond_both (is_greater q k.durable) _ _ (λ (n : Next). Freshly n.core) (λ t. record { sees = h.sees; later = h.later; follows = h.follows; counted = h.counted }) (λ t. record { sees = h.sees; later = h.later; follows = h.follows; counted = h.counted })
 
 module _ (k : Core) (inv : Invariant k) (h : Freshly k) where
-  same_fresh : Freshly (called (called k Mem call.Horizon) Store call.Horizon)
-  same_fresh = record { sees = h.sees; later = h.later; follows = h.follows; counted = h.counted }
-
   cut_seen_too : Freshly (cut_core k)
   cut_seen_too =
       let g : Freshly (record k { regs = after_cut k.regs (horizon_of (table_of k Mem)) (horizon_of (table_of k Store)) k.regs.store }) = cut_seen k inv h (horizon_of (table_of k Mem)) (horizon_of (table_of k Store)) in

@@ -24,7 +24,7 @@ use Rattle.sk_model.specs.Engine.{write_at}
 use Rattle.sk_model.specs.Legal.{Legal}
 use Rattle.sk_model.specs.Talks.{OwnCall, calls_in, wrote_in, tx_of, entries_by, same_engine}
 use Rattle.sk_model.proofs.Lists.{Each}
-use Rattle.sk_weave.specs.Reads.{snapshot_at, first_table}
+use Rattle.sk_linked.specs.Reads.{snapshot_at, first_table}
 use Rattle.sk_weave.specs.Points.{selection, commit_point}
 use Rattle.sk_linked.specs.declared.event.Event.{Event}
 use Rattle.sk_linked.specs.declared.event.Event.TheVariants as event

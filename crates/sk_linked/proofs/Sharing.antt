@@ -45,11 +45,6 @@ own_stays catalog rows points more s o = record {
 abbrev pub far : Phase → List Entry → Phase
 far p js = fold (λ p j. phase_after j.call j.reply p) p js
 
--- calls that come in their turn behind others that do
-pub in_turn_more : (p : Phase) (xs ys : List Entry) → CallsInTurn p xs → CallsInTurn (far p xs) ys → CallsInTurn p (xs ++ ys)
-in_turn_more p [] ys h k = k
-in_turn_more p (x ∷ xs) ys h k = (h.0, in_turn_more (phase_after x.call x.reply p) xs ys h.1 k)
-
 -- calls that fit behind others that do
 pub calls_fit_more : (name : EngineName) (catalog : List Table) (rows : Tables) (xs ys : List Entry) → CallsFit name catalog rows xs
     → (Each (λ (j : Entry). ReplyFits catalog j.call j.reply) xs → CallsFit name catalog rows ys) → CallsFit name catalog rows (xs ++ ys)

@@ -88,19 +88,6 @@ some_none e f = absurd (clash (sym e ∙ f))
     clash : {s : ℕ} → None ≡ Some s → ⊥
     clash g = cc
 
-work_opens_nothing : (tx : Label) (c : EngineCall) (r : EngineReply) → IsWork tx c → opened_by c r ≡ None
-work_opens_nothing tx (call.Open l s) r h = absurd h
-work_opens_nothing tx (call.Get l t key) r h = refl
-work_opens_nothing tx (call.Scan l t) r h = refl
-work_opens_nothing tx (call.Put l t key row) r h = refl
-work_opens_nothing tx (call.Close l) r h = absurd h
-work_opens_nothing tx (call.Stamp l n) r h = absurd h
-work_opens_nothing tx (call.Void l n) r h = absurd h
-work_opens_nothing tx (call.DropTx l) r h = absurd h
-work_opens_nothing tx call.Horizon r h = absurd h
-work_opens_nothing tx (call.Records from to) r h = absurd h
-work_opens_nothing tx (call.Purge upto) r h = absurd h
-
 going_on : (tx : Label) (xs : List Entry) (o : Option ℕ) → Going tx xs o → Going tx (xs ++ []) (or_else o None)
 going_on tx xs o g = subst (λ ys. Going tx ys (or_else o None)) (sym (append-nil xs)) (subst (λ p. Going tx xs p) (sym (or_none o)) g)
 

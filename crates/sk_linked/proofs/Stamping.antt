@@ -1,7 +1,7 @@
 -- A stamp keeps the invariant.
 use Rattle.std.specs.Prelude.{ℕ, List, [], ◌∷◌, ◌++◌, Option, Some, None, Bool, true, false, cond, not, ◌&&◌, ◌||◌, ◌≡◌, ◌⊎◌, is_some}
 use Rattle.std.proofs.Common.{refl, sym, ap, subst, ◌∙◌, inl, inr, ⊎_elim}
-use Rattle.std.proofs.lemmas.Bool.{cond_both, false≢true, and_parts}
+use Rattle.std.proofs.lemmas.Bool.{cond_both, false≢true, and_parts, not-true, or_cases}
 use Rattle.std.proofs.lemmas.List.{append-nil}
 use Rattle.std.proofs.lemmas.List.Concat.{flat_map-append}
 use Rattle.sk_model.specs.declared.label.Label.{Label}
@@ -30,11 +30,7 @@ use Rattle.sk_linked.proofs.Grounds.{cond_same}
 use Rattle.sk_linked.proofs.Going.{calls_more, IsOwnCall, Aside, Stamps, stamps_on}
 use Rattle.sk_linked.proofs.Moving.{stays}
 use Rattle.sk_linked.proofs.Applying.{each_entered, left_is, each_said, in_mapped, after_plan, Keeps}
-use Rattle.sk_linked.proofs.Events.{Plain, off, none_is, plain_by, plain_opens, plain_wrote, plain_own, plain_drops, none_wrote, none_false, belongs_now, kept_now, made_same, unlike_old}
-
-or_cases : (a b : Bool) → (a || b) ≡ true → (a ≡ true) ⊎ (b ≡ true)
-or_cases true b e = inl refl
-or_cases false b e = inr e
+use Rattle.sk_linked.proofs.Events.{Plain, none_is, plain_by, plain_opens, plain_wrote, plain_own, plain_drops, none_wrote, none_false, belongs_now, kept_now, made_same, unlike_old}
 
 other_one : (name s : EngineName) → (s ≡ name) ⊎ (s ≡ other name)
 other_one Mem Mem = inl refl
@@ -121,7 +117,7 @@ module _ (k : Core) (inv : Invariant k) (r : Actor) (among : In r k.actors) (tx 
   silent_aside : drawn_at (other name) r.drew ≡ None → wrote_in (calls_in (other name) r.talk) ≡ []
   silent_aside e = ⊎_elim
       (λ (c : r.committed ≡ true). b.silent (other name) c e)
-      (λ (c : (not (is_some (drawn_at (other name) r.drew)) && not (of (other name) r.wrote)) ≡ true). kept.silent (other name) (off (of (other name) r.wrote) (and_parts _ _ c).1))
+      (λ (c : (not (is_some (drawn_at (other name) r.drew)) && not (of (other name) r.wrote)) ≡ true). kept.silent (other name) (not-true (of (other name) r.wrote) (and_parts _ _ c).1))
       (or_cases r.committed (not (is_some (drawn_at (other name) r.drew)) && not (of (other name) r.wrote)) allowed)
 
   both_committed : (m s : ℕ) → r.drew.mem ≡ Some m → r.drew.store ≡ Some s → r.committed ≡ true

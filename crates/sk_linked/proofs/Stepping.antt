@@ -2,7 +2,7 @@
 use Rattle.std.specs.Prelude.{ℕ, zero, suc, List, [], ◌∷◌, ◌++◌, Option, Some, None, Result, Ok, Err, true, false, cond, not, ◌&&◌, ◌≡◌, ◌≤◌, ◌*◌, ◌⊎◌, is_some, drop, take}
 use Rattle.std.proofs.Common.{refl, sym, subst, ◌∙◌, inl, inr, ⊎_elim, arith}
 use Rattle.std.specs.List.{flat_map}
-use Rattle.std.proofs.lemmas.Bool.{cases_Bool, cond_both, cond-true, cond-false, and_parts}
+use Rattle.std.proofs.lemmas.Bool.{cases_Bool, cond_both, cond-true, cond-false, and_parts, not-true}
 use Rattle.std.proofs.lemmas.List.{append-nil}
 use Rattle.sk_rows.specs.declared.value.Value.{Value}
 use Rattle.sk_model.specs.declared.label.Label.{Label}
@@ -30,7 +30,7 @@ use Rattle.sk_weave.specs.declared.answer.DrawFault.TheVariants.{Spent, Early}
 use Rattle.sk_weave.specs.Points.{selection, Staircase}
 use Rattle.sk_weave.specs.Registry.{Regs, IsSound, first_of, live_of, is_within, selected, drawn, passes, makes_cut, after_cut, greatest_within}
 use Rattle.sk_weave.specs.RegistryLaws.{CanStart}
-use Rattle.sk_weave.specs.Reads.{AreSorted, first_table}
+use Rattle.sk_linked.specs.Reads.{AreSorted, first_table}
 use Rattle.sk_weave.proofs.Registers.{start_sound}
 use Rattle.sk_linked.specs.declared.event.Event.{Event}
 use Rattle.sk_linked.specs.declared.event.Event.TheVariants as event
@@ -44,7 +44,7 @@ use Rattle.sk_linked.proofs.Noting.{noted, linked_notes}
 use Rattle.sk_linked.proofs.Horizons.{horizon_upto}
 use Rattle.sk_linked.proofs.Moving.{Moves, whole, first_stays, rest_grows, stairs_of, points_drawn, first_drawn, cut_moves, cut_sound}
 use Rattle.sk_linked.proofs.Applying.{in_later, cut_later, kept_later, Keeps, taken_keeps, keeps_when}
-use Rattle.sk_linked.proofs.Events.{Plain, off, none_is, is_live, undrawn_of, leave_keeps, read_keeps, close_keeps, spent_keeps, failed_keeps, recycled_keeps}
+use Rattle.sk_linked.proofs.Events.{Plain, none_is, is_live, undrawn_of, leave_keeps, read_keeps, close_keeps, spent_keeps, failed_keeps, recycled_keeps}
 use Rattle.sk_linked.proofs.Writing.{put_keeps, open_keeps, select_keeps}
 use Rattle.sk_linked.proofs.Deciding.{draw_keeps, pass_keeps}
 use Rattle.sk_linked.proofs.Stamping.{stamp_keeps}
@@ -80,12 +80,12 @@ module _ (k : Core) (inv : Invariant k) (r : Actor) (among : In r k.actors) wher
       let more : ((of name r.shut && of name r.wrote) ≡ true) × ((not r.committed && not (is_some (drawn_at name r.drew))) ≡ true) = and_parts _ _ parts.1 in
       let flags : (of name r.shut ≡ true) × (of name r.wrote ≡ true) = and_parts _ _ more.0 in
       let none : (not r.committed ≡ true) × (not (is_some (drawn_at name r.drew)) ≡ true) = and_parts _ _ more.1 in
-      draw_keeps k inv r among (off r.committed none.0) tx name n e flags.0 flags.1 (none_is (drawn_at name r.drew) none.1)
+      draw_keeps k inv r among (not-true r.committed none.0) tx name n e flags.0 flags.1 (none_is (drawn_at name r.drew) none.1)
   draw_any tx name f (Err Spent) e =
       let parts : ((comes_next (draw_of name) (todo r) && in_order r name) ≡ true) × (((of name r.shut && of name r.wrote) && (not r.committed && not (is_some (drawn_at name r.drew)))) ≡ true) = and_parts _ _ f in
       let more : ((of name r.shut && of name r.wrote) ≡ true) × ((not r.committed && not (is_some (drawn_at name r.drew))) ≡ true) = and_parts _ _ parts.1 in
       let none : (not r.committed ≡ true) × (not (is_some (drawn_at name r.drew)) ≡ true) = and_parts _ _ more.1 in
-      spent_keeps k inv r among (off r.committed none.0) tx name
+      spent_keeps k inv r among (not-true r.committed none.0) tx name
   draw_any tx name f (Err (Early floor counter)) e = tt
 
   check_any : (tx : Label) → may_check r ≡ true → (m : Option ℕ) → r.drew.mem ≡ m → (s : Option ℕ) → r.drew.store ≡ s → Keeps k (event.Check tx) (checks k r m s)
@@ -94,8 +94,8 @@ module _ (k : Core) (inv : Invariant k) (r : Actor) (among : In r k.actors) wher
       let more : ((r.shut.mem && r.shut.store) ≡ true) × (not r.committed ≡ true) = and_parts _ _ parts.1 in
       let shut : (r.shut.mem ≡ true) × (r.shut.store ≡ true) = and_parts _ _ more.0 in
       cond_both (passes k.regs ca cb) _ _ (λ (p : Plan). Keeps k (event.Check tx) (Some p))
-      (λ y. pass_keeps k inv r among (off r.committed more.1) tx ca cb e g y shut.0 shut.1)
-      (λ y. failed_keeps k inv r among (off r.committed more.1) tx ca cb e g)
+      (λ y. pass_keeps k inv r among (not-true r.committed more.1) tx ca cb e g y shut.0 shut.1)
+      (λ y. failed_keeps k inv r among (not-true r.committed more.1) tx ca cb e g)
   check_any tx f (Some ca) e None g = tt
   check_any tx f None e s g = tt
 

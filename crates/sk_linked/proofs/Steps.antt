@@ -1,7 +1,7 @@
 -- The commit steps that are left to each transaction fit what it did, and where it may still close it has ended nothing.
 use Rattle.std.specs.Prelude.{ℕ, zero, suc, List, [], ◌∷◌, ◌++◌, Option, Some, None, Result, Ok, Err, Bool, true, false, cond, not, ◌&&◌, ◌||◌, ◌≡◌, is_some}
 use Rattle.std.proofs.Common.{refl, sym, ap, subst, ◌∙◌}
-use Rattle.std.proofs.lemmas.Bool.{cond_both, cond-true, false≢true, and_parts}
+use Rattle.std.proofs.lemmas.Bool.{cond_both, cond-true, false≢true, and_parts, not-true}
 use Rattle.std.specs.List.{AllByRecursion}
 use Rattle.sk_rows.specs.declared.value.Value.{Value}
 use Rattle.sk_model.specs.declared.label.Label.{Label}
@@ -41,7 +41,7 @@ use Rattle.sk_linked.proofs.Going.{calls_more}
 use Rattle.sk_linked.proofs.Members.{each_in, some_clash}
 use Rattle.sk_linked.proofs.Applying.{Other, each_put_actor, each_entered, left_is}
 use Rattle.sk_linked.proofs.Stepping.{actor_found, cut_core, starts_well, step_keeps}
-use Rattle.sk_linked.proofs.Events.{off, none_is}
+use Rattle.sk_linked.proofs.Events.{none_is}
 use Rattle.sk_linked.proofs.Ready.{IsReady, Readied, step_ready}
 use Rattle.sk_linked.proofs.Flags.{is_fit, starts, close_mem, close_store, draw_mem, draw_store, check, stamp_mem, stamp_store}
 
@@ -113,10 +113,6 @@ left_fits : (x : Actor) (b : Bool) → FitsAt x (stage_left b)
 left_fits x true = tt
 left_fits x false = tt
 
-behind_fits : (x : Actor) (steps : List StepName) → (is_none steps || true) ≡ true → (is_none steps ≡ false → FitFor x steps) → FitsAt x (stage_behind steps)
-behind_fits x [] u h = tt
-behind_fits x (y ∷ ys) u h = h refl
-
 or_right : (a b : Bool) → (a || b) ≡ true → a ≡ false → b ≡ true
 or_right true b h f = absurd (false≢true (sym f))
 or_right false b h f = h
@@ -143,7 +139,7 @@ module _ (k : Core) (r : Actor) (ready : IsReady r) (h : IsStepping r) where
   -- a running transaction that goes on running
   runs_still : (calls : Both (List EngineCall)) → ((name : EngineName) → Quiet (of name calls)) → (name : EngineName) → is_free r ≡ true
       → NoEnds r.label (calls_in name (r.talk ++ (calls_on Mem (entered (table_of k Mem) calls.mem) ++ calls_on Store (entered (table_of k Store) calls.store))))
-  runs_still calls q name y = still_more name calls (q name) (h.still name (running_can r.stage free.0) (off r.committed undrawn.0) (shut_off name) (none_drawn name))
+  runs_still calls q name y = still_more name calls (q name) (h.still name (running_can r.stage free.0) (not-true r.committed undrawn.0) (shut_off name) (none_drawn name))
     where
       free : (is_running r.stage ≡ true) × (is_untouched r ≡ true)
       free = and_parts (is_running r.stage) (is_untouched r) y
@@ -161,8 +157,8 @@ module _ (k : Core) (r : Actor) (ready : IsReady r) (h : IsStepping r) where
       undrawn = and_parts (not r.committed) (not (is_some r.drew.mem) && not (is_some r.drew.store)) parts.0
 
       shut_off : (name : EngineName) → of name r.shut ≡ false
-      shut_off Mem = off r.shut.mem (and_parts (not r.shut.mem) (not r.shut.store) parts.1).0
-      shut_off Store = off r.shut.store (and_parts (not r.shut.mem) (not r.shut.store) parts.1).1
+      shut_off Mem = not-true r.shut.mem (and_parts (not r.shut.mem) (not r.shut.store) parts.1).0
+      shut_off Store = not-true r.shut.store (and_parts (not r.shut.mem) (not r.shut.store) parts.1).1
 
       none_drawn : (name : EngineName) → drawn_at name r.drew ≡ None
       none_drawn Mem = none_is r.drew.mem (and_parts (not (is_some r.drew.mem)) (not (is_some r.drew.store)) undrawn.1).0

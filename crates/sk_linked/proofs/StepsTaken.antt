@@ -1,7 +1,7 @@
 -- The commit steps of a transaction are taken where they come next.
 use Rattle.std.specs.Prelude.{ℕ, [], ◌∷◌, Option, Some, None, Ok, Err, true, false, cond, not, ◌&&◌, ◌==◌, ◌+◌, ◌≡◌, ◌≤◌, ◌<◌, is_some, nat_lt}
 use Rattle.std.proofs.Common.{refl, sym, ap, subst, ◌∙◌, arith}
-use Rattle.std.proofs.lemmas.Bool.{cond_both, false≢true, and_parts, ltb-true}
+use Rattle.std.proofs.lemmas.Bool.{cond_both, false≢true, and_parts, ltb-true, not-true}
 use Rattle.std.specs.Cmp.Derive.{both_true}
 use Rattle.sk_model.specs.declared.label.Label.{Label}
 use Rattle.sk_model.specs.declared.engine.EngineName.{EngineName}
@@ -25,7 +25,7 @@ use Rattle.sk_linked.specs.Plans.{Plan, nothing, only, drops, ended, is_undrawn,
 use Rattle.sk_linked.specs.Machine.{may_all, lets}
 use Rattle.sk_linked.specs.Invariant.{Invariant}
 use Rattle.sk_linked.specs.Lawful.{is_lawful_for, is_not_now}
-use Rattle.sk_linked.proofs.Events.{off, none_is}
+use Rattle.sk_linked.proofs.Events.{none_is}
 use Rattle.sk_linked.proofs.Seeing.{Freshly}
 use Rattle.sk_linked.proofs.Ready.{IsReady}
 use Rattle.sk_linked.proofs.Flags.{implies, close_mem, close_store, draw_mem, draw_store, check, stamp_mem, stamp_store}
@@ -51,13 +51,13 @@ module _ (k : Core) (inv : Invariant k) (h : Freshly k) (r : Actor) (among : In 
       let u : (is_undrawn r ≡ true) × (not r.shut.mem ≡ true) = and_parts (is_undrawn r) (not r.shut.mem) t.0 in
       let v : (not r.committed ≡ true) × ((not (is_some r.drew.mem) && not (is_some r.drew.store)) ≡ true) = and_parts (not r.committed) (not (is_some r.drew.mem) && not (is_some r.drew.store)) u.0 in
       let n : r.drew.mem ≡ None = none_is r.drew.mem (and_parts (not (is_some r.drew.mem)) (not (is_some r.drew.store)) v.1).0 in
-      record { may = t.0; wrote = t.1; none = n; can = closes_standing k inv r among Mem t.1 (g.still Mem (can_next names.CloseMem r y) (off r.committed v.0) (off r.shut.mem u.1) n) }
+      record { may = t.0; wrote = t.1; none = n; can = closes_standing k inv r among Mem t.1 (g.still Mem (can_next names.CloseMem r y) (not-true r.committed v.0) (not-true r.shut.mem u.1) n) }
   closing Store y =
       let t : ((is_undrawn r && not r.shut.store) ≡ true) × (r.wrote.store ≡ true) = and_parts (is_undrawn r && not r.shut.store) r.wrote.store (and_parts _ _ (close_store r.wrote.mem r.wrote.store r.shut.mem r.shut.store (is_some r.drew.mem) (is_some r.drew.store) r.committed (todo r) (fit names.CloseStore y) y)).0 in
       let u : (is_undrawn r ≡ true) × (not r.shut.store ≡ true) = and_parts (is_undrawn r) (not r.shut.store) t.0 in
       let v : (not r.committed ≡ true) × ((not (is_some r.drew.mem) && not (is_some r.drew.store)) ≡ true) = and_parts (not r.committed) (not (is_some r.drew.mem) && not (is_some r.drew.store)) u.0 in
       let n : r.drew.store ≡ None = none_is r.drew.store (and_parts (not (is_some r.drew.mem)) (not (is_some r.drew.store)) v.1).1 in
-      record { may = t.0; wrote = t.1; none = n; can = closes_standing k inv r among Store t.1 (g.still Store (can_next names.CloseStore r y) (off r.committed v.0) (off r.shut.store u.1) n) }
+      record { may = t.0; wrote = t.1; none = n; can = closes_standing k inv r among Store t.1 (g.still Store (can_next names.CloseStore r y) (not-true r.committed v.0) (not-true r.shut.store u.1) n) }
 
   pub take_close : (tx : Label) (name : EngineName) → is_lawful_for k r (event.Close tx name) ≡ true → Takes k (event.Close tx name) (plan_for k r (event.Close tx name))
   take_close tx name y =

@@ -19,7 +19,7 @@ use Rattle.sk_model.specs.EngineReplies.{answer_of, horizon_of}
 use Rattle.sk_weave.specs.Registry.{live_of, greatest_within}
 use Rattle.sk_model.specs.Talks.{is_by}
 use Rattle.sk_model.proofs.Labels.{same_is}
-use Rattle.sk_weave.specs.Reads.{first_table}
+use Rattle.sk_linked.specs.Reads.{first_table}
 use Rattle.sk_linked.specs.declared.event.Event.{Event}
 use Rattle.sk_linked.specs.declared.event.Event.TheVariants as event
 use Rattle.sk_linked.specs.declared.event.CoreReply.TheVariants as reply

@@ -27,7 +27,7 @@ use Rattle.sk_model.specs.Legal.{step as step_entry, is_refusal}
 use Rattle.sk_model.specs.Talks.{calls_in, is_by}
 use Rattle.sk_weave.specs.declared.answer.Selected.{Selected}
 use Rattle.sk_weave.specs.Registry.{selected}
-use Rattle.sk_weave.specs.Reads.{snapshot_at, first_table}
+use Rattle.sk_linked.specs.Reads.{snapshot_at, first_table}
 use Rattle.sk_linked.specs.declared.event.Event.{Event}
 use Rattle.sk_linked.specs.declared.event.Event.TheVariants as event
 use Rattle.sk_linked.specs.declared.event.CoreReply.{CoreReply}

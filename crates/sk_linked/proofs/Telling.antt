@@ -26,8 +26,8 @@ use Rattle.sk_model.proofs.Lists.{Each, each_weaker, each_front, each_end}
 use Rattle.sk_model.proofs.Labels.{same_is}
 use Rattle.sk_model.proofs.Order.{legal_front}
 use Rattle.sk_weave.specs.Woven.{own_writes}
-use Rattle.sk_weave.specs.Reads.{snapshot_at, number_at, owns, AreSorted, table_after, Reader, view_at}
-use Rattle.sk_weave.proofs.Keys.{get, scan}
+use Rattle.sk_linked.specs.Reads.{snapshot_at, number_at, owns, AreSorted, table_after, Reader, view_at}
+use Rattle.sk_linked.proofs.Keys.{get, scan}
 use Rattle.sk_linked.specs.Traces.{Transaction, Traces, run_of, owed, In, IsOwn, NotAgain, Belongs, Linked}
 use Rattle.sk_linked.proofs.Projection.{SplitBy, split_by, OpensAt, snapshot_is, no_ends, each_of_own, opens_at_by, puts_by, again_of_own, again_front, allowed_front, standing_snapshot}
 use Rattle.sk_linked.proofs.Members.{each_call}

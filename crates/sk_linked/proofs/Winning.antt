@@ -21,8 +21,8 @@ use Rattle.sk_model.proofs.Lists.{Each, each_weaker, each_front, each_end}
 use Rattle.sk_model.proofs.Labels.{same_is}
 use Rattle.sk_model.proofs.Lookups.{hits_is, hits_itself}
 use Rattle.sk_model.proofs.Nets.{net_row}
-use Rattle.sk_weave.specs.Reads.{snapshot_at, order_of, StampedIn, Writer}
-use Rattle.sk_weave.proofs.Wins.{wins}
+use Rattle.sk_linked.specs.Reads.{snapshot_at, order_of, StampedIn, Writer}
+use Rattle.sk_linked.proofs.Wins.{wins}
 use Rattle.sk_linked.specs.Traces.{drawn_at, Transaction, Traces, run_of, stamp_entry, owed_by, In, close_entry, Drew, Linked}
 use Rattle.sk_linked.specs.Headline.{Author, place_of, WinsFirst}
 use Rattle.sk_linked.proofs.Projection.{SplitBy, split_by, HasSnapshot, OpensAt, snapshot_is, opens_at_by, allowed_front}

@@ -24,7 +24,7 @@ use Rattle.sk_model.proofs.Labels.{same_itself}
 use Rattle.sk_weave.specs.declared.answer.Selected.{Selected}
 use Rattle.sk_weave.specs.Points.{selection}
 use Rattle.sk_weave.specs.Registry.{Regs, first_of, selected, after_selection}
-use Rattle.sk_weave.specs.Reads.{Snapshots, snapshot_at, PairIf}
+use Rattle.sk_linked.specs.Reads.{Snapshots, snapshot_at, PairIf}
 use Rattle.sk_weave.proofs.Registers.{selected_pair}
 use Rattle.sk_linked.specs.declared.event.Event.{Event}
 use Rattle.sk_linked.specs.declared.event.Event.TheVariants as event

@@ -12,7 +12,7 @@ use Rattle.sk_model.specs.declared.call.Entry.{Entry}
 use Rattle.sk_model.specs.Engine.{Stamped, Version, EngineTable}
 use Rattle.sk_model.specs.Legal.{step}
 use Rattle.sk_model.specs.RecordTalks.{Talks}
-use Rattle.sk_weave.specs.Reads.{first_table}
+use Rattle.sk_linked.specs.Reads.{first_table}
 use Rattle.sk_linked.specs.Traces.{Transaction, Traces, run_of, In, Linked}
 use Rattle.sk_linked.specs.Recorded.{HasTalk}
 

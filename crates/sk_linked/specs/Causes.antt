@@ -28,7 +28,7 @@ use Rattle.sk_model.specs.Asking.{read_call}
 use Rattle.sk_model.specs.RecordTalks.{Talks}
 use Rattle.sk_weave.specs.declared.answer.DrawFault.TheVariants.{Spent}
 use Rattle.sk_weave.specs.Registry.{Regs, no_point, selected, drawn, checked, IsSound}
-use Rattle.sk_weave.specs.Reads.{number_at, first_table}
+use Rattle.sk_linked.specs.Reads.{number_at, first_table}
 use Rattle.sk_linked.specs.Traces.{drawn_at, Transaction, Traces, run_of, In, IsAtHorizons, Linked}
 use Rattle.sk_linked.specs.State.{counter}
 use Rattle.sk_linked.specs.Recorded.{HasTalk}

@@ -9,7 +9,7 @@ use Rattle.sk_model.specs.declared.record.Said.{Said}
 use Rattle.sk_model.specs.Database.{Tables}
 use Rattle.sk_model.specs.RecordTalks.{Talks}
 use Rattle.sk_model.specs.Texts.{texts_are_short}
-use Rattle.sk_weave.specs.Reads.{PairIf}
+use Rattle.sk_linked.specs.Reads.{PairIf}
 use Rattle.sk_linked.specs.Traces.{Transaction, In}
 use Rattle.sk_linked.specs.Recorded.{HasTalk}
 use Rattle.sk_linked.specs.Joining.{Behaves}

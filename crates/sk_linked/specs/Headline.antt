@@ -8,7 +8,7 @@ use Rattle.sk_model.specs.Records.{FirstWins, Unlike, some_writes, own_place}
 use Rattle.sk_model.specs.Stamped.{number_in}
 use Rattle.sk_model.specs.Talks.{puts_in, TalkTold}
 use Rattle.sk_model.specs.Places.{place}
-use Rattle.sk_weave.specs.Reads.{Run, order_of, view_at, AreSorted}
+use Rattle.sk_linked.specs.Reads.{Run, order_of, view_at, AreSorted}
 use Rattle.sk_linked.specs.Traces.{drawn_at, Transaction, Traces, run_of, In, Linked}
 
 -- the committed transaction whose commit it is, with its numbers and with what its writes come to

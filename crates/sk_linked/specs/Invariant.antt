@@ -9,7 +9,7 @@ use Rattle.sk_model.specs.Records.{some_writes}
 use Rattle.sk_model.specs.Calls.{ends}
 use Rattle.sk_model.specs.Talks.{calls_in, wrote_in}
 use Rattle.sk_weave.specs.Registry.{Regs, IsSound}
-use Rattle.sk_weave.specs.Reads.{PairIf, AreSorted}
+use Rattle.sk_linked.specs.Reads.{PairIf, AreSorted}
 use Rattle.sk_linked.specs.Traces.{drawn_at, Transaction, In, close_entry, Linked}
 use Rattle.sk_linked.specs.State.{of, Actor, transaction_of, Flush, Core, traces_of, counter}
 use Rattle.sk_linked.specs.Plans.{is_running}

@@ -21,7 +21,7 @@ use Rattle.sk_model.specs.Legal.{is_refusal, step, Legal}
 use Rattle.sk_model.specs.Talks.{OwnCall, calls_in, wrote_in, tx_of, entries_by, same_engine}
 use Rattle.sk_weave.specs.Points.{Staircase}
 use Rattle.sk_weave.specs.Woven.{At}
-use Rattle.sk_weave.specs.Reads.{snapshot_at, PairIf, first_table}
+use Rattle.sk_linked.specs.Reads.{snapshot_at, PairIf, first_table}
 use Rattle.sk_linked.specs.Traces.{drawn_at, Transaction, Traces, run_of, has_stamped, In, IsOwn, open_entry, close_entry, stamp_entry, DrewUnlike, CommitOf, Known, PointsMade, Linked}
 
 -- ---- the order of a transaction's calls on one engine

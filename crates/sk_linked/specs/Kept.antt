@@ -14,7 +14,7 @@ use Rattle.sk_model.specs.Records.{is_committed, Fresh, OneDatabase}
 use Rattle.sk_model.specs.Talks.{Talk, calls_in, tx_of, entries_by}
 use Rattle.sk_model.specs.RecordTalks.{Talks}
 use Rattle.sk_weave.specs.Points.{Staircase}
-use Rattle.sk_weave.specs.Reads.{PairIf, first_table, order_of, AreSorted}
+use Rattle.sk_linked.specs.Reads.{PairIf, first_table, order_of, AreSorted}
 use Rattle.sk_linked.specs.Traces.{Transaction, Traces, run_of, DrewUnlike, Known, PointsMade, Linked}
 use Rattle.sk_linked.specs.Headline.{place_of}
 use Rattle.sk_linked.specs.Recorded.{AreRecords}

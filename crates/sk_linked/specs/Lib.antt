@@ -1,3 +1,4 @@
+pub mod Reads
 pub mod Traces
 pub mod Headline
 pub mod Recorded

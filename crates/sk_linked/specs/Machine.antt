@@ -19,7 +19,7 @@ use Rattle.sk_model.specs.Talks.{Talk}
 use Rattle.sk_weave.specs.Points.{selection}
 use Rattle.sk_model.specs.Places.{place}
 use Rattle.sk_weave.specs.Registry.{Regs, after_cut, live_of, greatest_within, oldest_of}
-use Rattle.sk_weave.specs.Reads.{number_at, order_of}
+use Rattle.sk_linked.specs.Reads.{number_at, order_of}
 use Rattle.sk_linked.specs.declared.event.Event.{Event}
 use Rattle.sk_linked.specs.declared.event.Event.TheVariants as event
 use Rattle.sk_linked.specs.declared.event.CoreReply.{CoreReply}

@@ -28,7 +28,7 @@ use Rattle.sk_weave.specs.declared.answer.DrawFault.{DrawFault}
 use Rattle.sk_weave.specs.declared.answer.DrawFault.TheVariants.{Spent, Early}
 use Rattle.sk_weave.specs.Points.{selection, commit_point}
 use Rattle.sk_weave.specs.Registry.{Regs, last_of, selected, after_selection, drawn, after_draw_mem, after_draw_store, passes, after_check}
-use Rattle.sk_weave.specs.Reads.{snapshot_at}
+use Rattle.sk_linked.specs.Reads.{snapshot_at}
 use Rattle.sk_linked.specs.declared.event.Event.{Event}
 use Rattle.sk_linked.specs.declared.event.Event.TheVariants as event
 use Rattle.sk_linked.specs.declared.event.CoreReply.{CoreReply}

@@ -6,7 +6,7 @@ use Rattle.sk_model.specs.Database.{Tables}
 use Rattle.sk_model.specs.Records.{Told, written, is_committed, Fresh, OneDatabase}
 use Rattle.sk_model.specs.Talks.{puts_in, TalkTold}
 use Rattle.sk_model.specs.RecordTalks.{Talks}
-use Rattle.sk_weave.specs.Reads.{order_of, AreSorted}
+use Rattle.sk_linked.specs.Reads.{order_of, AreSorted}
 use Rattle.sk_linked.specs.Traces.{Transaction, Traces, run_of, Linked}
 use Rattle.sk_linked.specs.Headline.{place_of}
 

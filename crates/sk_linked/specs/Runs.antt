@@ -8,7 +8,7 @@ use Rattle.sk_model.specs.Database.{Tables, state}
 use Rattle.sk_model.specs.Records.{same_label, Fresh}
 use Rattle.sk_weave.specs.Points.{selection}
 use Rattle.sk_weave.specs.RegistryLaws.{CanStart}
-use Rattle.sk_weave.specs.Reads.{AreSorted}
+use Rattle.sk_linked.specs.Reads.{AreSorted}
 use Rattle.sk_linked.specs.declared.event.Event.{Event}
 use Rattle.sk_linked.specs.declared.event.Event.TheVariants as event
 use Rattle.sk_linked.specs.Traces.{In, Linked}

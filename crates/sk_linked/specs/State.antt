@@ -14,7 +14,7 @@ use Rattle.sk_model.specs.Engine.{EngineTable, engine_at}
 use Rattle.sk_model.specs.Legal.{after_entries}
 use Rattle.sk_model.specs.Talks.{Talk}
 use Rattle.sk_weave.specs.Registry.{Regs, regs_at, first_of}
-use Rattle.sk_weave.specs.Reads.{Snapshots, number_at}
+use Rattle.sk_linked.specs.Reads.{Snapshots, number_at}
 use Rattle.sk_linked.specs.declared.record.Did.{Did}
 use Rattle.sk_linked.specs.declared.record.CoreRecord.{CoreRecord}
 use Rattle.sk_linked.specs.Traces.{Drawn, Transaction, Traces}

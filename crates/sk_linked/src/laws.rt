@@ -1,5 +1,6 @@
 //! What holds of every run. Each function has one law as its contract, and does nothing.
 
+ghost use Rattle.sk_linked.specs.Reads.{GetIsOfView, ScanIsOfView, FirstCommitterWins};
 ghost use Rattle.sk_linked.specs.Headline.{LinkedIsOne};
 ghost use Rattle.sk_linked.specs.Recorded.{RecordsAreOne, TalksMakeRecords};
 ghost use Rattle.sk_linked.specs.Runs.{RunsAreLinked, RunsAreOne, RunsAreFresh, RunsAreDurable};
@@ -10,6 +11,21 @@ ghost use Rattle.sk_linked.specs.Conduct.{TalksBehave};
 ghost use Rattle.sk_linked.specs.Causes.{RefusalsAreCaused};
 ghost use Rattle.sk_linked.specs.Kept.{SessionsAreOne};
 ghost use Rattle.sk_linked.specs.Alone.{AloneMeetsNobody};
+
+/// A read of one key by a transaction whose snapshots are a pair finds the row that the list's prefix at their place shows, overlaid with the transaction's own writes, whatever is stamped later.
+pub fn get_is_of_view()
+    ensures { GetIsOfView }
+{}
+
+/// A read of a table by such a transaction finds the table that this prefix shows, overlaid with its own writes.
+pub fn scan_is_of_view()
+    ensures { ScanIsOfView }
+{}
+
+/// First committer wins: between the place of a transaction's snapshots and the place where it stands, no commit wrote a row that it wrote.
+pub fn first_committer_wins()
+    ensures { FirstCommitterWins }
+{}
 
 /// Journals, points and transactions that belong together are of one database with one list of commits: each transaction reads one
 /// prefix of it with its own writes, the list is exactly what committed and wrote, and the first committer wins.

@@ -14,7 +14,7 @@ use Rattle.sk_codec.specs.Reading.{number_at}
 use Rattle.sk_log.specs.declared.logged.Logged.{Logged}
 use Rattle.sk_log.specs.declared.logged.Head.{Head}
 use Rattle.sk_log.specs.Groups.{halves, is_cross}
-use Rattle.sk_log.specs.Stores.{Reached, Opening, range_of, body_of, stored_of, group_of, next_gate, opened, holding, turns}
+use Rattle.sk_log.specs.Stores.{LogPosition, Opening, range_of, body_of, stored_of, group_of, next_gate, opened, holding, turns}
 use Rattle.sk_log.specs.Images.{Base}
 use Rattle.sk_log.specs.Growth.{OpensAs, Behind, Follows, group_text, from_ends, grown}
 use Rattle.sk_codec.proofs.Parts.{bind_ok, ok_is}
@@ -68,31 +68,31 @@ module _ (two : List ℕ) (gate : ℕ) (body : List ℕ) (holds : take (length (
 abbrev none : Base
 none = record { catalog = []; rows = [] }
 
-shift_body : (t : Reached) (next : ℕ) (bytes : List ℕ) → body_of t next bytes ≡ body_of (from_ends t.catalog t.cut (opened none t).ends) next bytes
+shift_body : (t : LogPosition) (next : ℕ) (bytes : List ℕ) → body_of t next bytes ≡ body_of (from_ends t.catalog t.cut (opened none t).ends) next bytes
 unfolding body_of
 shift_body t next bytes = refl
 
-shift_store : (t : Reached) (head : Head) (bytes : List ℕ) → stored_of t head bytes ≡ stored_of (from_ends t.catalog t.cut (opened none t).ends) head bytes
+shift_store : (t : LogPosition) (head : Head) (bytes : List ℕ) → stored_of t head bytes ≡ stored_of (from_ends t.catalog t.cut (opened none t).ends) head bytes
 unfolding stored_of
 shift_store t head bytes = refl
 
 -- a group is put behind the commits that were read before
-shift_group : (t u : Reached) (head : Head) (mem store : List Logged) (next : ℕ) → group_of (from_ends t.catalog t.cut (opened none t).ends) head mem store next ≡ Ok u
+shift_group : (t u : LogPosition) (head : Head) (mem store : List Logged) (next : ℕ) → group_of (from_ends t.catalog t.cut (opened none t).ends) head mem store next ≡ Ok u
     → group_of t head mem store next ≡ Ok (record { catalog = t.catalog; set = t.set; cut = u.cut; end = u.end; gate = u.gate; mem = t.mem ++ u.mem; store = t.store ++ u.store })
 unfolding group_of
 shift_group t u head mem store next e =
     let b = bind_ok (halves (store_file t.set) (anchor_file t.set) (filter is_cross store) (filter is_cross mem)) _ _ e in
     let is = ok_is _ _ b.2 in
-    rw b.1 (ap (λ (r : Reached). Ok (record { catalog = t.catalog; set = t.set; cut = r.cut; end = r.end; gate = r.gate; mem = t.mem ++ r.mem; store = t.store ++ r.store })) is)
+    rw b.1 (ap (λ (r : LogPosition). Ok (record { catalog = t.catalog; set = t.set; cut = r.cut; end = r.end; gate = r.gate; mem = t.mem ++ r.mem; store = t.store ++ r.store })) is)
 
-next_there : (t : Reached) (n : ℕ) → t.gate + 5 + n ≤ 4294967295 → next_gate t.set t.gate (to_be_bytes w32 n) ≡ Ok (t.gate + 5 + n)
+next_there : (t : LogPosition) (n : ℕ) → t.gate + 5 + n ≤ 4294967295 → next_gate t.set t.gate (to_be_bytes w32 n) ≡ Ok (t.gate + 5 + n)
 unfolding next_gate number_at
 next_there t n fits = rw (from_be_bytes-to_be_bytes_4 n (omega (arith, fits)), le-ltb 4294967295 (t.gate + 5 + n) fits) refl
 
-abbrev pub further : Reached → List ℕ → List ℕ → Point → List Commit → List Commit → Reached
+abbrev pub further : LogPosition → List ℕ → List ℕ → Point → List Commit → List Commit → LogPosition
 further t store body to mem stored = record { catalog = t.catalog; set = t.set; cut = to; end = t.end + length store; gate = t.gate + 5 + length body; mem = t.mem ++ mem; store = t.store ++ stored }
 
-pub group_turns : (one two : List ℕ) (t : Reached) (store body : List ℕ) (to : Point) (mem stored : List Commit) → Follows t.catalog t.cut (opened none t).ends store body to mem stored
+pub group_turns : (one two : List ℕ) (t : LogPosition) (store body : List ℕ) (to : Point) (mem stored : List Commit) → Follows t.catalog t.cut (opened none t).ends store body to mem stored
     → take (length (group_text body)) (drop (t.gate + 1) two) ≡ group_text body → take (length store) (drop t.end one) ≡ store → t.end ≤ length one → get_or two t.gate 0 ≡ 1
     → (j : ℕ) → 2 ≤ j → turns j one two t ≡ Ok (further t store body to mem stored)
 group_turns one two t store body to mem stored f there range ended is_open zero le = absurd (omega (arith, le))

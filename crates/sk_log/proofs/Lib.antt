@@ -1,5 +1,5 @@
 -- what a write and a sync leave
-pub mod Standing
+pub mod Synced
 -- reading turns, and what an image that grew opens as: theory for others too
 pub mod Tools
 pub mod Turns

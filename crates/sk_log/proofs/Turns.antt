@@ -12,7 +12,7 @@ use Rattle.sk_codec.specs.Reading.{Rest, number_at}
 use Rattle.sk_log.specs.declared.logged.Logged.{Logged}
 use Rattle.sk_log.specs.declared.logged.Head.{Head}
 use Rattle.sk_log.specs.Groups.{first_at, second_at, end_at, head_at, body_at, halves, is_cross}
-use Rattle.sk_log.specs.Stores.{Reached, range_of, body_of, stored_of, group_of, group_at, next_gate, behind_gate, turn, turns}
+use Rattle.sk_log.specs.Stores.{LogPosition, range_of, body_of, stored_of, group_of, group_at, next_gate, behind_gate, turn, turns}
 use Rattle.sk_codec.proofs.Parts.{bind_ok, guard_ok, ok_is}
 use Rattle.sk_log.proofs.Tools.{chosen_some, chosen_none}
 
@@ -51,7 +51,7 @@ head_end cut end rest x e =
     let was : to.0.0 ≡ x.0.end = ap (λ (p : Head × Rest). p.0.end) (ok_is _ _ to.2) in
     omega (arith, le, is, was)
 
-body_end : (s : Reached) (next : ℕ) (bytes : List ℕ) (x : Head × List Logged) → body_of s next bytes ≡ Ok x → s.end ≤ x.0.end
+body_end : (s : LogPosition) (next : ℕ) (bytes : List ℕ) (x : Head × List Logged) → body_of s next bytes ≡ Ok x → s.end ≤ x.0.end
 unfolding body_of
 body_end s next bytes x e =
     let h = bind_ok (head_at s.cut s.end (record { file = anchor_file s.set; place = s.gate + 5; bytes = bytes })) _ _ e in
@@ -61,7 +61,7 @@ body_end s next bytes x e =
     omega (arith, le, is)
 
 -- what a group that was read says of its places
-pub record Went (one two : List ℕ) (s u : Reached) (next : ℕ) : Type 0 where
+pub record Went (one two : List ℕ) (s u : LogPosition) (next : ℕ) : Type 0 where
   pub body : Head × List Logged
   pub store : List Logged
   pub is_body : body_of s next (range_of two (s.gate + 5) next) ≡ Ok body
@@ -70,7 +70,7 @@ pub record Went (one two : List ℕ) (s u : Reached) (next : ℕ) : Type 0 where
   pub here : next ≤ length two
   pub there : body.0.end ≤ length one
 
-pub went : (one two : List ℕ) (s u : Reached) (next : ℕ) → group_at one two s next ≡ Ok u → Went one two s u next
+pub went : (one two : List ℕ) (s u : LogPosition) (next : ℕ) → group_at one two s next ≡ Ok u → Went one two s u next
 unfolding group_at
 went one two s u next e =
     let body = bind_ok (body_of s next (range_of two (s.gate + 5) next)) _ _ e in
@@ -79,25 +79,25 @@ went one two s u next e =
     let both = or_parts _ _ g.0 in
     record { body = body.0; store = store.0; is_body = body.1; is_store = store.1; is_group = g.1; here = ltb-false _ _ both.0; there = ltb-false _ _ both.1 }
 
-pub goes : (one two : List ℕ) (s u : Reached) (next : ℕ) → Went one two s u next → group_at one two s next ≡ Ok u
+pub goes : (one two : List ℕ) (s u : LogPosition) (next : ℕ) → Went one two s u next → group_at one two s next ≡ Ok u
 unfolding group_at
 goes one two s u next w = rw (w.is_body, w.is_store, le-ltb _ _ w.here, le-ltb _ _ w.there) w.is_group
 
-pub record At (s u : Reached) (head : Head) (next : ℕ) : Type 0 where
+pub record At (s u : LogPosition) (head : Head) (next : ℕ) : Type 0 where
   pub end : u.end ≡ head.end
   pub gate : u.gate ≡ next
   pub set : u.set ≡ s.set
   pub catalog : u.catalog ≡ s.catalog
 
-pub group_is : (s u : Reached) (head : Head) (mem store : List Logged) (next : ℕ) → group_of s head mem store next ≡ Ok u → At s u head next
+pub group_is : (s u : LogPosition) (head : Head) (mem store : List Logged) (next : ℕ) → group_of s head mem store next ≡ Ok u → At s u head next
 unfolding group_of
 group_is s u head mem store next e =
     let both = bind_ok (halves (store_file s.set) (anchor_file s.set) (filter is_cross store) (filter is_cross mem)) _ _ e in
     let is = ok_is _ _ both.2 in
-    record { end = ap (λ (r : Reached). r.end) (sym is); gate = ap (λ (r : Reached). r.gate) (sym is); set = ap (λ (r : Reached). r.set) (sym is); catalog = ap (λ (r : Reached). r.catalog) (sym is) }
+    record { end = ap (λ (r : LogPosition). r.end) (sym is); gate = ap (λ (r : LogPosition). r.gate) (sym is); set = ap (λ (r : LogPosition). r.set) (sym is); catalog = ap (λ (r : LogPosition). r.catalog) (sym is) }
 
 -- the same group, of bytes that agree so far
-group_same : (one two one' two' : List ℕ) (s u : Reached) (next : ℕ) → Agrees u.end u.gate one two one' two' → group_at one two s next ≡ Ok u → group_at one' two' s next ≡ Ok u
+group_same : (one two one' two' : List ℕ) (s u : LogPosition) (next : ℕ) → Agrees u.end u.gate one two one' two' → group_at one two s next ≡ Ok u → group_at one' two' s next ≡ Ok u
 group_same one two one' two' s u next same e =
     let w = went one two s u next e in
     let is = group_is s u w.body.0 w.body.1 w.store next w.is_group in
@@ -114,23 +114,23 @@ group_same one two one' two' s u next same e =
     })
 
 -- a turn that went on
-pub record Turned (one two : List ℕ) (s u : Reached) : Type 0 where
+pub record Turned (one two : List ℕ) (s u : LogPosition) : Type 0 where
   pub inside : s.gate < length two
   pub opened : get_or two s.gate 0 ≡ 1
   pub next : ℕ
   pub is_next : next_gate s.set s.gate (range_of two (s.gate + 1) (s.gate + 5)) ≡ Ok next
   pub is_group : group_at one two s next ≡ Ok u
 
-behind : (one two : List ℕ) (s u : Reached) → behind_gate one two s ≡ Ok u
+behind : (one two : List ℕ) (s u : LogPosition) → behind_gate one two s ≡ Ok u
     → (next : ℕ) × (next_gate s.set s.gate (range_of two (s.gate + 1) (s.gate + 5)) ≡ Ok next) × (group_at one two s next ≡ Ok u)
 unfolding behind_gate
 behind one two s u e = bind_ok (next_gate s.set s.gate (range_of two (s.gate + 1) (s.gate + 5))) _ _ e
 
-behind_is : (one two : List ℕ) (s u : Reached) (next : ℕ) → next_gate s.set s.gate (range_of two (s.gate + 1) (s.gate + 5)) ≡ Ok next → group_at one two s next ≡ Ok u → behind_gate one two s ≡ Ok u
+behind_is : (one two : List ℕ) (s u : LogPosition) (next : ℕ) → next_gate s.set s.gate (range_of two (s.gate + 1) (s.gate + 5)) ≡ Ok next → group_at one two s next ≡ Ok u → behind_gate one two s ≡ Ok u
 unfolding behind_gate
 behind_is one two s u next is_next is_group = rw (is_next, is_group) refl
 
-pub turned : (one two : List ℕ) (s u : Reached) → turn one two s ≡ Ok (Some u) → Turned one two s u
+pub turned : (one two : List ℕ) (s u : LogPosition) → turn one two s ≡ Ok (Some u) → Turned one two s u
 unfolding turn
 turned one two s u e =
     let g = guard_ok _ _ _ _ e in
@@ -144,11 +144,11 @@ turned one two s u e =
       is_group = n.2;
     }
 
-pub turns_on : (one two : List ℕ) (s u : Reached) → Turned one two s u → turn one two s ≡ Ok (Some u)
+pub turns_on : (one two : List ℕ) (s u : LogPosition) → Turned one two s u → turn one two s ≡ Ok (Some u)
 unfolding turn
 turns_on one two s u t = rw (lt-leb _ _ t.inside, eq-eqb _ _ t.opened, behind_is one two s u t.next t.is_next t.is_group) refl
 
-next_past : (s : Reached) (bytes : List ℕ) (next : ℕ) → next_gate s.set s.gate bytes ≡ Ok next → s.gate + 5 ≤ next
+next_past : (s : LogPosition) (bytes : List ℕ) (next : ℕ) → next_gate s.set s.gate bytes ≡ Ok next → s.gate + 5 ≤ next
 unfolding next_gate
 next_past s bytes next e =
     let n = bind_ok (number_at w32 (record { file = anchor_file s.set; place = s.gate + 1; bytes = bytes })) _ _ e in
@@ -158,7 +158,7 @@ next_past s bytes next e =
     subst (λ (k : ℕ). s.gate + 5 ≤ k) is le
 
 -- its places
-pub record Places (one two : List ℕ) (s u : Reached) : Type 0 where
+pub record Places (one two : List ℕ) (s u : LogPosition) : Type 0 where
   pub gate : s.gate + 5 ≤ u.gate
   pub end : s.end ≤ u.end
   pub gated : u.gate ≤ length two
@@ -166,7 +166,7 @@ pub record Places (one two : List ℕ) (s u : Reached) : Type 0 where
   pub set : u.set ≡ s.set
   pub catalog : u.catalog ≡ s.catalog
 
-pub places : (one two : List ℕ) (s u : Reached) → Turned one two s u → Places one two s u
+pub places : (one two : List ℕ) (s u : LogPosition) → Turned one two s u → Places one two s u
 places one two s u t =
     let w = went one two s u t.next t.is_group in
     let is = group_is s u w.body.0 w.body.1 w.store t.next w.is_group in
@@ -182,7 +182,7 @@ places one two s u t =
     }
 
 -- the same turn, of bytes that agree so far
-pub turned_same : (one two one' two' : List ℕ) (s u : Reached) → Agrees u.end u.gate one two one' two' → Turned one two s u → Turned one' two' s u
+pub turned_same : (one two one' two' : List ℕ) (s u : LogPosition) → Agrees u.end u.gate one two one' two' → Turned one two s u → Turned one' two' s u
 turned_same one two one' two' s u same t =
     let p = places one two s u t in
     let five : take (s.gate + 5) two' ≡ take (s.gate + 5) two = front_same (s.gate + 5) u.gate two two' p.gate same.anchor in
@@ -199,7 +199,7 @@ turned_same one two one' two' s u same t =
     }
 
 -- what the last of several turns reached
-pub record Lies (one two : List ℕ) (s t : Reached) : Type 0 where
+pub record Lies (one two : List ℕ) (s t : LogPosition) : Type 0 where
   pub gate : s.gate ≤ t.gate
   pub end : s.end ≤ t.end
   pub inside : t.gate < length two
@@ -208,52 +208,52 @@ pub record Lies (one two : List ℕ) (s t : Reached) : Type 0 where
   pub set : t.set ≡ s.set
   pub catalog : t.catalog ≡ s.catalog
 
-pub stopped : (one two : List ℕ) (s : Reached) → turn one two s ≡ Ok None → (s.gate < length two) × (get_or two s.gate 0 ≢ 1)
+pub stopped : (one two : List ℕ) (s : LogPosition) → turn one two s ≡ Ok None → (s.gate < length two) × (get_or two s.gate 0 ≢ 1)
 unfolding turn
 stopped one two s e =
     let g = guard_ok _ _ _ _ e in
     let shut = chosen_none (get_or two s.gate 0 == 1) (behind_gate one two s) g.1 in
     (leb-false _ _ g.0, λ is. absurd (eqb-false _ _ shut is))
 
-pub stops : (one two : List ℕ) (s : Reached) → s.gate < length two → get_or two s.gate 0 ≢ 1 → turn one two s ≡ Ok None
+pub stops : (one two : List ℕ) (s : LogPosition) → s.gate < length two → get_or two s.gate 0 ≢ 1 → turn one two s ≡ Ok None
 unfolding turn
 stops one two s inside shut = rw (lt-leb _ _ inside, ne_eqb _ _ shut) refl
 
-no_turns : (one two : List ℕ) (s t : Reached) → turns zero one two s ≡ Ok t → ⊥
+no_turns : (one two : List ℕ) (s t : LogPosition) → turns zero one two s ≡ Ok t → ⊥
 unfolding turns
 no_turns one two s t e = absurd cc
 
-pub turn_then : (n : ℕ) (one two : List ℕ) (s u : Reached) (r : Result Reached Fault) → turn one two s ≡ Ok (Some u) → turns n one two u ≡ r → turns (suc n) one two s ≡ r
+pub turn_then : (n : ℕ) (one two : List ℕ) (s u : LogPosition) (r : Result LogPosition Fault) → turn one two s ≡ Ok (Some u) → turns n one two u ≡ r → turns (suc n) one two s ≡ r
 unfolding turns
 turn_then n one two s u r is rest = rw is rest
 
-pub turn_last : (n : ℕ) (one two : List ℕ) (s : Reached) → turn one two s ≡ Ok None → turns (suc n) one two s ≡ Ok s
+pub turn_last : (n : ℕ) (one two : List ℕ) (s : LogPosition) → turn one two s ≡ Ok None → turns (suc n) one two s ≡ Ok s
 unfolding turns
 turn_last n one two s is = rw is refl
 
-abbrev after : ℕ → List ℕ → List ℕ → Reached → Option Reached → Result Reached Fault
+abbrev after : ℕ → List ℕ → List ℕ → LogPosition → Option LogPosition → Result LogPosition Fault
 after n one two s = elim [
   | None ↦ Ok s
   | Some t ↦ turns n one two t
 ]
 
-by_turn : (n : ℕ) (one two : List ℕ) (s t : Reached) (o : Option Reached) → turn one two s ≡ Ok o → after n one two s o ≡ Ok t
-    → ((turn one two s ≡ Ok None) × (s ≡ t)) ⊎ ((u : Reached) × (turn one two s ≡ Ok (Some u)) × (turns n one two u ≡ Ok t))
+by_turn : (n : ℕ) (one two : List ℕ) (s t : LogPosition) (o : Option LogPosition) → turn one two s ≡ Ok o → after n one two s o ≡ Ok t
+    → ((turn one two s ≡ Ok None) × (s ≡ t)) ⊎ ((u : LogPosition) × (turn one two s ≡ Ok (Some u)) × (turns n one two u ≡ Ok t))
 by_turn n one two s t None is e = inl (is, ok_is _ _ e)
 by_turn n one two s t (Some u) is e = inr (u, is, e)
 
 -- one more turn that may be taken stops here, or goes on
-pub turn_cases : (n : ℕ) (one two : List ℕ) (s t : Reached) → turns (suc n) one two s ≡ Ok t
-    → ((turn one two s ≡ Ok None) × (s ≡ t)) ⊎ ((u : Reached) × (turn one two s ≡ Ok (Some u)) × (turns n one two u ≡ Ok t))
+pub turn_cases : (n : ℕ) (one two : List ℕ) (s t : LogPosition) → turns (suc n) one two s ≡ Ok t
+    → ((turn one two s ≡ Ok None) × (s ≡ t)) ⊎ ((u : LogPosition) × (turn one two s ≡ Ok (Some u)) × (turns n one two u ≡ Ok t))
 unfolding turns
 turn_cases n one two s t e = let b = bind_ok (turn one two s) (after n one two s) t e in by_turn n one two s t b.0 b.1 b.2
 
-pub lies : (n : ℕ) (one two : List ℕ) (s t : Reached) → turns n one two s ≡ Ok t → Lies one two s t
+pub lies : (n : ℕ) (one two : List ℕ) (s t : LogPosition) → turns n one two s ≡ Ok t → Lies one two s t
 lies zero one two s t e = absurd (no_turns one two s t e)
 lies (suc n) one two s t e = elim (turn_cases n one two s t e) [
   | inl here ↦
       let st = stopped one two s here.0 in
-      subst (λ (r : Reached). Lies one two s r) here.1 (record { gate = omega arith; end = omega arith; inside = st.0; ended = λ le. le; shut = st.1; set = refl; catalog = refl })
+      subst (λ (r : LogPosition). Lies one two s r) here.1 (record { gate = omega arith; end = omega arith; inside = st.0; ended = λ le. le; shut = st.1; set = refl; catalog = refl })
   | inr on ↦
       let p = places one two s on.0 (turned one two s on.0 on.1) in
       let l = lies n one two on.0 t on.2 in
@@ -270,11 +270,11 @@ lies (suc n) one two s t e = elim (turn_cases n one two s t e) [
 
 -- Bytes that agree up to what was reached are read the same up to there, and then go on from there. Each turn passes bytes, so
 -- that a number of turns is enough.
-pub turns_join : (n m k : ℕ) (one two one' two' : List ℕ) (s t : Reached) (r : Result Reached Fault) → Agrees t.end t.gate one two one' two' → turns n one two s ≡ Ok t
+pub turns_join : (n m k : ℕ) (one two one' two' : List ℕ) (s t : LogPosition) (r : Result LogPosition Fault) → Agrees t.end t.gate one two one' two' → turns n one two s ≡ Ok t
     → t.gate + k ≤ s.gate + m → ((j : ℕ) → k ≤ j → turns j one' two' t ≡ r) → turns m one' two' s ≡ r
 turns_join zero m k one two one' two' s t r same e enough more = absurd (no_turns one two s t e)
 turns_join (suc n) zero k one two one' two' s t r same e enough more = elim (turn_cases n one two s t e) [
-  | inl here ↦ subst (λ (x : Reached). turns zero one' two' x ≡ r) (sym here.1) (more zero (omega (arith, enough, ap (λ (x : Reached). x.gate) here.1)))
+  | inl here ↦ subst (λ (x : LogPosition). turns zero one' two' x ≡ r) (sym here.1) (more zero (omega (arith, enough, ap (λ (x : LogPosition). x.gate) here.1)))
   | inr on ↦
       let p = places one two s on.0 (turned one two s on.0 on.1) in
       let l = lies n one two on.0 t on.2 in
@@ -282,7 +282,7 @@ turns_join (suc n) zero k one two one' two' s t r same e enough more = elim (tur
       absurd no
 ]
 turns_join (suc n) (suc m) k one two one' two' s t r same e enough more = elim (turn_cases n one two s t e) [
-  | inl here ↦ subst (λ (x : Reached). turns (suc m) one' two' x ≡ r) (sym here.1) (more (suc m) (omega (arith, enough, ap (λ (x : Reached). x.gate) here.1)))
+  | inl here ↦ subst (λ (x : LogPosition). turns (suc m) one' two' x ≡ r) (sym here.1) (more (suc m) (omega (arith, enough, ap (λ (x : LogPosition). x.gate) here.1)))
   | inr on ↦
       let p = places one two s on.0 (turned one two s on.0 on.1) in
       let l = lies n one two on.0 t on.2 in

@@ -9,7 +9,7 @@ use Rattle.sk_log.specs.declared.ends.Ends.{Ends}
 use Rattle.sk_log.specs.Calls.{store_file, anchor_file, image_file}
 use Rattle.sk_log.specs.declared.logged.Logged.{Logged}
 use Rattle.sk_log.specs.declared.logged.Head.{Head}
-use Rattle.sk_log.specs.Stores.{Reached, Opening, holding, open_from, body_of, stored_of, group_of}
+use Rattle.sk_log.specs.Stores.{LogPosition, Opening, holding, open_from, body_of, stored_of, group_of}
 
 -- a root entry is open, and the image opens so
 pub record OpensAs (image : Image) (o : Opening) : Type 0 where
@@ -36,7 +36,7 @@ abbrev pub group_text : List ℕ → List ℕ
 group_text body = to_be_bytes w32 (length body) ++ body ++ 0 ∷ []
 
 -- what is known at the ends, with no commits before them
-abbrev pub from_ends : List Table → Point → Ends → Reached
+abbrev pub from_ends : List Table → Point → Ends → LogPosition
 from_ends catalog cut ends = record { catalog = catalog; set = ends.set; cut = cut; end = ends.store_end; gate = ends.gate; mem = []; store = [] }
 
 abbrev pub next_ends : Ends → List ℕ → List ℕ → Ends

@@ -26,7 +26,7 @@ at_place w file place = record { file = file; place = place; what = w }
 -- ---- groups
 
 -- what is known between two groups
-pub record Reached : Type 0 where
+pub record LogPosition : Type 0 where
   pub catalog : List Table
   pub set : ℕ
   pub cut : Point
@@ -39,7 +39,7 @@ abbrev pub commits : List Logged → List Commit
 commits fs = map (λ f. f.commit) fs
 
 -- the group behind an open gate, from the records of its body and of its range of the storage log
-unfoldable pub group_of : Reached → Head → List Logged → List Logged → ℕ → Result Reached Fault
+unfoldable pub group_of : LogPosition → Head → List Logged → List Logged → ℕ → Result LogPosition Fault
 group_of s head mem store gate = do
   both ← halves (store_file s.set) (anchor_file s.set) (filter is_cross store) (filter is_cross mem)
   Ok (record { catalog = s.catalog; set = s.set; cut = head.cut; end = head.end; gate = gate; mem = s.mem ++ commits mem; store = s.store ++ commits store })
@@ -49,18 +49,18 @@ abbrev pub range_of : List ℕ → ℕ → ℕ → List ℕ
 range_of bytes from upto = drop from (take upto bytes)
 
 -- a group's body, of its bytes alone
-unfoldable pub body_of : Reached → ℕ → List ℕ → Result (Head × List Logged) Fault
+unfoldable pub body_of : LogPosition → ℕ → List ℕ → Result (Head × List Logged) Fault
 body_of s next bytes = do
   head ← head_at s.cut s.end (record { file = anchor_file s.set; place = s.gate + 5; bytes = bytes })
   mem ← body_at s.catalog s.cut.a head.0.cut.a next head.1
   Ok (head.0, mem)
 
 -- a group's records of the storage log, of their bytes alone
-unfoldable pub stored_of : Reached → Head → List ℕ → Result (List Logged) Fault
+unfoldable pub stored_of : LogPosition → Head → List ℕ → Result (List Logged) Fault
 stored_of s head bytes = records_to s.catalog true (head.end - s.end) head.end head.cut.b s.cut.b (record { file = store_file s.set; place = s.end; bytes = bytes })
 
 -- The next group, of the bytes of both logs. The test of lengths adds nothing: a body or range that is cut has failed before.
-unfoldable pub group_at : List ℕ → List ℕ → Reached → ℕ → Result Reached Fault
+unfoldable pub group_at : List ℕ → List ℕ → LogPosition → ℕ → Result LogPosition Fault
 group_at one two s next = do
   body ← body_of s next (range_of two (s.gate + 5) next)
   store ← stored_of s body.0 (range_of one s.end body.0.end)
@@ -72,27 +72,27 @@ next_gate set gate bytes = do
   n ← number_at w32 (record { file = anchor_file set; place = gate + 1; bytes = bytes })
   if nat_lt 4294967295 (gate + 5 + n.0) then Err (at_place what.Length (anchor_file set) (gate + 1)) else Ok (gate + 5 + n.0)
 
-unfoldable pub behind_gate : List ℕ → List ℕ → Reached → Result Reached Fault
+unfoldable pub behind_gate : List ℕ → List ℕ → LogPosition → Result LogPosition Fault
 behind_gate one two s = do
   next ← next_gate s.set s.gate (range_of two (s.gate + 1) (s.gate + 5))
   group_at one two s next
 
 -- one turn: none where the gate is closed
-unfoldable pub turn : List ℕ → List ℕ → Reached → Result (Option Reached) Fault
+unfoldable pub turn : List ℕ → List ℕ → LogPosition → Result (Option LogPosition) Fault
 turn one two s =
     if nat_le (length two) s.gate then Err (at_place what.Length (anchor_file s.set) s.gate)
     else if get_or two s.gate 0 == 1 then behind_gate one two s >>= (λ t. Ok (Some t))
     else Ok None
 
 -- Each turn passes a gate byte, so that one more turn than bytes is enough.
-unfoldable pub turns : ℕ → List ℕ → List ℕ → Reached → Result Reached Fault
+unfoldable pub turns : ℕ → List ℕ → List ℕ → LogPosition → Result LogPosition Fault
 turns zero one two s = Err (at_place what.Length (anchor_file s.set) s.gate)
 turns (suc n) one two s = turn one two s >>= elim [
   | None ↦ Ok s
   | Some t ↦ turns n one two t
 ]
 
-abbrev pub logs : Image → Reached → Result Reached Fault
+abbrev pub logs : Image → LogPosition → Result LogPosition Fault
 logs image s = turns (length (image (anchor_file s.set)) + 1) (image (store_file s.set)) (image (anchor_file s.set)) s
 
 -- ---- the root
@@ -163,10 +163,10 @@ no_rows catalog = map (λ _. []) catalog
 abbrev pub new_store : List Table → Point → Opening
 new_store catalog start = record { base = record { catalog = catalog; rows = no_rows catalog }; mem = []; store = []; cut = start; ends = record { set = 0; store_end = 0; gate = 0 } }
 
-abbrev pub opened : Base → Reached → Opening
+abbrev pub opened : Base → LogPosition → Opening
 opened base t = record { base = base; mem = t.mem; store = t.store; cut = t.cut; ends = record { set = t.set; store_end = t.end; gate = t.gate } }
 
-abbrev pub begun : Root → Base → Reached
+abbrev pub begun : Root → Base → LogPosition
 begun root base = record { catalog = base.catalog; set = root.set; cut = root.cut; end = 0; gate = 0; mem = []; store = [] }
 
 -- from the root entry that stands there: the image, then the logs

@@ -41,32 +41,32 @@ at_front P (x ∷ xs) (y ∷ ys) zs h e =
     subst (λ z. P (z ∷ ys)) same (at_front (λ us. P (x ∷ us)) xs ys zs (each_of_map P x (fronts xs) h.1) rest)
 
 -- how far the steps have come in an engine
-data Reached (tx : Label) (e : EngineName) (floor : ℕ) (number : Option ℕ) (drawn : Bool) (calls : Talk) : Type 0 where
-  Before : drawn ≡ false → calls ≡ [] → Reached tx e floor number drawn calls
-  AtClose : calls ≡ own e (call.Close tx) (Number floor) ∷ [] → Reached tx e floor number drawn calls
-  AtStamp : drawn ≡ true → calls ≡ own e (call.Close tx) (Number floor) ∷ own e (call.Stamp tx (number_or_none number)) Done ∷ [] → Reached tx e floor number drawn calls
+data StepsGone (tx : Label) (e : EngineName) (floor : ℕ) (number : Option ℕ) (drawn : Bool) (calls : Talk) : Type 0 where
+  Before : drawn ≡ false → calls ≡ [] → StepsGone tx e floor number drawn calls
+  AtClose : calls ≡ own e (call.Close tx) (Number floor) ∷ [] → StepsGone tx e floor number drawn calls
+  AtStamp : drawn ≡ true → calls ≡ own e (call.Close tx) (Number floor) ∷ own e (call.Stamp tx (number_or_none number)) Done ∷ [] → StepsGone tx e floor number drawn calls
 
 module _ (tx : Label) (n : Numbered) where
-  abbrev MemReached : List StepName → Type 0
-  MemReached ss = Reached tx Mem n.floor_mem n.mem (list_any is_draw_mem ss) (in_engine Mem (steps_calls tx n ss))
+  abbrev MemStepsGone : List StepName → Type 0
+  MemStepsGone ss = StepsGone tx Mem n.floor_mem n.mem (list_any is_draw_mem ss) (in_engine Mem (steps_calls tx n ss))
 
-  abbrev StoreReached : List StepName → Type 0
-  StoreReached ss = Reached tx Store n.floor_store n.store (list_any is_draw_store ss) (in_engine Store (steps_calls tx n ss))
+  abbrev StoreStepsGone : List StepName → Type 0
+  StoreStepsGone ss = StepsGone tx Store n.floor_store n.store (list_any is_draw_store ss) (in_engine Store (steps_calls tx n ss))
 
-  mem_fronts : (wm ws : Bool) → AllByRecursion MemReached (fronts (commit_steps wm ws))
+  mem_fronts : (wm ws : Bool) → AllByRecursion MemStepsGone (fronts (commit_steps wm ws))
   mem_fronts true true = (Before refl refl, (AtClose refl, (AtClose refl, (AtClose refl, (AtClose refl, (AtClose refl, (AtStamp refl refl, (AtStamp refl refl, tt))))))))
   mem_fronts true false = (Before refl refl, (AtClose refl, (AtClose refl, (AtStamp refl refl, tt))))
   mem_fronts false true = (Before refl refl, (Before refl refl, (Before refl refl, (Before refl refl, tt))))
   mem_fronts false false = (Before refl refl, tt)
 
-  store_fronts : (wm ws : Bool) → AllByRecursion StoreReached (fronts (commit_steps wm ws))
+  store_fronts : (wm ws : Bool) → AllByRecursion StoreStepsGone (fronts (commit_steps wm ws))
   store_fronts true true = (Before refl refl, (Before refl refl, (AtClose refl, (AtClose refl, (AtClose refl, (AtClose refl, (AtClose refl, (AtStamp refl refl, tt))))))))
   store_fronts true false = (Before refl refl, (Before refl refl, (Before refl refl, (Before refl refl, tt))))
   store_fronts false true = (Before refl refl, (AtClose refl, (AtClose refl, (AtStamp refl refl, tt))))
   store_fronts false false = (Before refl refl, tt)
 
 -- what is left behind these calls, where the transaction is over or not: whether it is owed, and what was drawn
-after_reached : (tx : Label) (e : EngineName) (floor : ℕ) (number : Option ℕ) (drawn owed : Bool) (calls : Talk) → Reached tx e floor number drawn calls → is_some number ≡ drawn → IfSome number (λ n. floor < n)
+after_reached : (tx : Label) (e : EngineName) (floor : ℕ) (number : Option ℕ) (drawn owed : Bool) (calls : Talk) → StepsGone tx e floor number drawn calls → is_some number ≡ drawn → IfSome number (λ n. floor < n)
     → (owed ≡ true → (number ≡ None) ⊎ (calls ≡ own e (call.Close tx) (Number floor) ∷ [])) → EngineEnd tx e number (calls ++ left_by tx e owed number)
 after_reached tx e floor None drawn false calls (Before d is) has past fits = StillOpen refl (ap (λ t. t ++ []) is)
 after_reached tx e floor None drawn true calls (Before d is) has past fits = Dropped refl (ap (λ t. t ++ own e (call.DropTx tx) Done ∷ []) is)
@@ -234,7 +234,7 @@ module _ (catalog : List Table) (r : Record) (talk : Talk) (t : Talks catalog r 
         ∙ ap (λ x. in_engine Mem t.spoken ++ (mem_calls ++ x)) (append-nil (left_by r.label Mem mem_owed r.drew_mem));
     shape =
         after_reached r.label Mem t.numbered.floor_mem r.drew_mem (list_any is_draw_mem t.taken) mem_owed mem_calls
-        (subst (λ d. Reached r.label Mem t.numbered.floor_mem d (list_any is_draw_mem t.taken) mem_calls) (sym t.drew_mem) (at_front (MemReached r.label t.numbered) (commit_steps (wrote Mem t.spoken) (wrote Store t.spoken)) t.taken t.rest (mem_fronts r.label t.numbered (wrote Mem t.spoken) (wrote Store t.spoken)) t.steps))
+        (subst (λ d. StepsGone r.label Mem t.numbered.floor_mem d (list_any is_draw_mem t.taken) mem_calls) (sym t.drew_mem) (at_front (MemStepsGone r.label t.numbered) (commit_steps (wrote Mem t.spoken) (wrote Store t.spoken)) t.taken t.rest (mem_fronts r.label t.numbered (wrote Mem t.spoken) (wrote Store t.spoken)) t.steps))
         t.mem_drawn t.past_mem
         (λ owed. either_side (λ d. undrawn_is r.drew_mem (t.mem_drawn ∙ d)) (stopped r.ending r.mem (wrote Mem t.spoken) (list_any is_draw_mem t.taken ≡ false) _ t.taken t.rest (list_any is_draw_mem) t.ends owed
         (at_cut (MemStops r.label t.numbered) (commit_steps (wrote Mem t.spoken) (wrote Store t.spoken)) t.taken t.rest (mem_cuts r.label t.numbered (wrote Mem t.spoken) (wrote Store t.spoken)) t.steps)
@@ -253,7 +253,7 @@ module _ (catalog : List Table) (r : Record) (talk : Talk) (t : Talks catalog r 
         ∙ ap (λ x. in_engine Store t.spoken ++ (store_calls ++ x)) (left_store_only r.label store_owed r.drew_store);
     shape =
         after_reached r.label Store t.numbered.floor_store r.drew_store (list_any is_draw_store t.taken) store_owed store_calls
-        (subst (λ d. Reached r.label Store t.numbered.floor_store d (list_any is_draw_store t.taken) store_calls) (sym t.drew_store) (at_front (StoreReached r.label t.numbered) (commit_steps (wrote Mem t.spoken) (wrote Store t.spoken)) t.taken t.rest (store_fronts r.label t.numbered (wrote Mem t.spoken) (wrote Store t.spoken)) t.steps))
+        (subst (λ d. StepsGone r.label Store t.numbered.floor_store d (list_any is_draw_store t.taken) store_calls) (sym t.drew_store) (at_front (StoreStepsGone r.label t.numbered) (commit_steps (wrote Mem t.spoken) (wrote Store t.spoken)) t.taken t.rest (store_fronts r.label t.numbered (wrote Mem t.spoken) (wrote Store t.spoken)) t.steps))
         t.store_drawn t.past_store
         (λ owed. either_side (λ d. undrawn_is r.drew_store (t.store_drawn ∙ d)) (stopped r.ending r.store (wrote Store t.spoken) (list_any is_draw_store t.taken ≡ false) _ t.taken t.rest (list_any is_draw_store) t.ends owed
         (at_cut (StoreStops r.label t.numbered) (commit_steps (wrote Mem t.spoken) (wrote Store t.spoken)) t.taken t.rest (store_cuts r.label t.numbered (wrote Mem t.spoken) (wrote Store t.spoken)) t.steps)

@@ -10,10 +10,6 @@ use Rattle.sk_model.specs.declared.commit.Commit.{Commit}
 use Rattle.sk_model.specs.Places.{is_wanted, place}
 use Rattle.sk_model.proofs.Lists.{Each}
 
-place_zero : (cs : List Commit) (m s : Option ℕ) → list_any (is_wanted m s) cs ≡ false → place cs m s ≡ 0
-place_zero [] m s e = refl
-place_zero (c ∷ cs) m s e = rw e refl
-
 pub place_push : (cs : List Commit) (c : Commit) (m s : Option ℕ) → place (cs ++ c ∷ []) m s ≡ cond (is_wanted m s c) (length cs + 1) (place cs m s)
 place_push [] c m s = ⊎_elim (λ (t : is_wanted m s c ≡ true). rw t refl) (λ (f : is_wanted m s c ≡ false). rw f refl) (cases_Bool (is_wanted m s c))
 place_push (d ∷ cs) c m s =

@@ -162,12 +162,6 @@ pub record Quiet (t : ℕ) (key : Value) (s : ℕ) (e : EngineTable) : Type 0 wh
   pub opened : s ≤ e.greatest
   pub row : Each (QuietIn t key s) e.versions
 
-quiet_decided : (s : ℕ) (st : VersionState) → is_undecided st ≡ false → QuietAt s st
-quiet_decided s Open e = tt
-quiet_decided s (Closed f) e = absurd (false≢true (sym e))
-quiet_decided s (Stamped n) e = tt
-quiet_decided s Dropped e = tt
-
 quiet_open : (s : ℕ) (st : VersionState) → is_open st ≡ true → QuietAt s st
 quiet_open s Open e = tt
 quiet_open s (Closed f) e = absurd (false≢true e)
@@ -295,14 +289,6 @@ pub step_keeps : (P : EngineTable → Type 0) (e : EngineTable) (j : Entry) → 
 step_keeps P e j h f = cond_both (may e j.call && not (is_refusal j.reply)) (change e j.call) e P
     (λ t. let parts : (may e j.call ≡ true) × (not (is_refusal j.reply) ≡ true) = and_parts _ _ t in f parts.0 (not-true _ parts.1))
     (λ f. h)
-
-pub sound_entries : (e : EngineTable) (js : List Entry) → AllSound e → AllSound (after_entries e js)
-sound_entries e [] h = h
-sound_entries e (j ∷ js) h = sound_entries (step e j) js (step_keeps AllSound e j h (λ m r. sound_change e j.call m h))
-
-pub quiet_entries : (t : ℕ) (key : Value) (s : ℕ) (e : EngineTable) (js : List Entry) → Quiet t key s e → Quiet t key s (after_entries e js)
-quiet_entries t key s e [] h = h
-quiet_entries t key s e (j ∷ js) h = quiet_entries t key s (step e j) js (step_keeps (Quiet t key s) e j h (λ m r. quiet_change t key s e j.call h))
 
 -- whatever comes after a read, the row's versions up to the reader's snapshot stay those that it saw
 pub seen_stays : (t : ℕ) (key : Value) (s : ℕ) (e : EngineTable) (js : List Entry) → AllSound e → Quiet t key s e → seen_versions t key s (after_entries e js).versions ≡ seen_versions t key s e.versions

@@ -11,6 +11,7 @@ use Rattle.sk_rows.specs.declared.expr.Op.{Op}
 use Rattle.sk_rows.specs.declared.expr.Op.TheVariants as op
 use Rattle.sk_rows.specs.declared.expr.Expr.{Expr}
 use Rattle.sk_rows.specs.declared.expr.Expr.TheVariants as e
+use Rattle.sk_lex.specs.Marks as mark
 use Rattle.sk_parse.specs.declared.cursor.Sign.TheVariants as sign
 use Rattle.sk_parse.specs.declared.terms.Level.{Level}
 use Rattle.sk_parse.specs.declared.terms.Level.TheVariants as level
@@ -198,10 +199,10 @@ name_read : (p : Parser Expr) (t : List ℕ) → is_name t ≡ true → (r : Inp
 unfolding atom_over sees name
 name_read p t is r = ap (λ b. and_then (take_some (cond b (Some t) None) (word.Name t ∷ r)) (λ y. pure (e.Col y))) is
 
-parens_read : (n : ℕ) (ws : List Word) (a : Expr) (r : Input) → Gave (chain_at level.Or n (ws ++ word.Mark 41 0 ∷ r)) a (word.Mark 41 0 ∷ r)
-    → Gave (atom_over (parens (suc n)) (word.Mark 40 0 ∷ ws ++ word.Mark 41 0 ∷ r)) a r
+parens_read : (n : ℕ) (ws : List Word) (a : Expr) (r : Input) → Gave (chain_at level.Or n (ws ++ word.Mark mark.close_paren mark.none ∷ r)) a (word.Mark mark.close_paren mark.none ∷ r)
+    → Gave (atom_over (parens (suc n)) (word.Mark mark.open_paren mark.none ∷ ws ++ word.Mark mark.close_paren mark.none ∷ r)) a r
 unfolding atom_over sees parens in_parens expect
-parens_read n ws a r is = ap (λ out. and_then out (λ inner. expect (sign.Mark 41 0) >> pure inner)) is
+parens_read n ws a r is = ap (λ out. and_then out (λ inner. expect (sign.Mark mark.close_paren mark.none) >> pure inner)) is
 
 comp_read : (n : ℕ) (i : Input) (a : Expr) (r : Input) → Gave (chain_at level.Sum n i) a r → None_at comparison r → Gave (comp_over (parens n) i) a r
 unfolding comp_over compared_to
@@ -239,8 +240,8 @@ complete _ _ _ _ (Derives.comp_two n us w vs o a b d at d2) r = λ ends.
 complete _ _ _ _ (Derives.atom_literal n ws v lit) r = literal_read n (parens n) ws v lit r
 complete _ _ _ _ (Derives.atom_name n t is) r = name_read (parens n) t is r
 complete _ _ _ _ (Derives.atom_parens n ws a d) r =
-    ap (λ z. atom_over (parens (suc n)) (word.Mark 40 0 ∷ z)) (append_assoc ws (word.Mark 41 0 ∷ []) r)
-    ∙ parens_read n ws a r (finish level.Or n _ a (word.Mark 41 0 ∷ r) (complete _ _ _ _ d (word.Mark 41 0 ∷ r)) ((((tt, refl), refl), refl), refl) refl)
+    ap (λ z. atom_over (parens (suc n)) (word.Mark mark.open_paren mark.none ∷ z)) (append_assoc ws (word.Mark mark.close_paren mark.none ∷ []) r)
+    ∙ parens_read n ws a r (finish level.Or n _ a (word.Mark mark.close_paren mark.none ∷ r) (complete _ _ _ _ d (word.Mark mark.close_paren mark.none ∷ r)) ((((tt, refl), refl), refl), refl) refl)
 
 -- what may follow an expression
 abbrev pub Ends : Input → Type 0

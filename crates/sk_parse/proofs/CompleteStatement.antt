@@ -12,6 +12,7 @@ use Rattle.sk_rows.specs.declared.statement.Begun.TheVariants as begun
 use Rattle.sk_rows.specs.declared.statement.SetItem.{SetItem}
 use Rattle.sk_rows.specs.declared.statement.Statement.{Statement}
 use Rattle.sk_rows.specs.declared.statement.Statement.TheVariants as st
+use Rattle.sk_lex.specs.Marks as mark
 use Rattle.sk_parse.specs.declared.cursor.Sign.TheVariants as sign
 use Rattle.sk_parse.specs.Input.{Input, Parser, and_then, pure, refuse, ◌<$>◌, ◌>>=◌, ◌>>◌, next, sees, same_key, after, expect, listed, listed_from, take_some}
 use Rattle.sk_parse.specs.Terms.{name, literal, plain, negative}
@@ -45,7 +46,7 @@ literal_read _ _ (IsLiteral.negative w v at) r _ = ap (λ f. take_some f (w ∷ 
 
 -- ---- lists
 
-no_more : {A : Type 0} (p : Parser A) (n : ℕ) (found : List A) (r : Input) → sees (sign.Mark 44 0) r ≡ false → Gave (listed_from p n found r) (found ++ []) r
+no_more : {A : Type 0} (p : Parser A) (n : ℕ) (found : List A) (r : Input) → sees (sign.Mark mark.comma mark.none) r ≡ false → Gave (listed_from p n found r) (found ++ []) r
 unfolding listed_from after
 no_more p zero found r none = ap (λ l. Ok (l, r)) (sym (append-nil found))
 no_more p (suc n) found r none =
@@ -53,24 +54,24 @@ no_more p (suc n) found r none =
 
 -- a turn of the list
 turn : {A : Type 0} (p : Parser A) (n : ℕ) (found : List A) (i : Input) (x : A) (r : Input) → Gave (p i) x r
-    → listed_from p (suc n) found (word.Mark 44 0 ∷ i) ≡ listed_from p n (found ++ x ∷ []) r
+    → listed_from p (suc n) found (word.Mark mark.comma mark.none ∷ i) ≡ listed_from p n (found ++ x ∷ []) r
 unfolding listed_from after sees
 turn p n found i x r is = ap (λ out. and_then out (λ y. listed_from p n (found ++ y ∷ []))) is
 
 module _ {A : Type 0} (p : Parser A) (Item : List Word → A → Type 0) (Behind : Input → Type 0) (completes : Completes p Item Behind)
-    (at_comma : (j : Input) → Behind (word.Mark 44 0 ∷ j)) where
+    (at_comma : (j : Input) → Behind (word.Mark mark.comma mark.none ∷ j)) where
   behind_item : (xs : List A) (ws : List Word) → AreMore Item ws xs → (r : Input) → Behind r → Behind (ws ++ r)
   behind_item [] ws is r ends = subst (λ z. Behind (z ++ r)) (sym is) ends
   behind_item (x ∷ xs) ws is r ends = subst (λ z. Behind (z ++ r)) (sym is.2) (at_comma ((is.0 ++ is.1) ++ r))
 
-  more_read : (xs : List A) (ws : List Word) → AreMore Item ws xs → (n : ℕ) (found : List A) (r : Input) → length (ws ++ r) ≤ n → Behind r → sees (sign.Mark 44 0) r ≡ false
+  more_read : (xs : List A) (ws : List Word) → AreMore Item ws xs → (n : ℕ) (found : List A) (r : Input) → length (ws ++ r) ≤ n → Behind r → sees (sign.Mark mark.comma mark.none) r ≡ false
       → Gave (listed_from p n found (ws ++ r)) (found ++ xs) r
   more_read [] ws is n found r few ends none = subst (λ z. Gave (listed_from p n found (z ++ r)) (found ++ []) r) (sym is) (no_more p n found r none)
   more_read (x ∷ xs) ws is zero found r few ends none =
       let e = ap (λ z. length (z ++ r)) is.2 in absurd (omega arith)
   more_read (x ∷ xs) ws is (suc n) found r few ends none =
       let rest : (is.0 ++ is.1) ++ r ≡ is.0 ++ (is.1 ++ r) = append_assoc is.0 is.1 r in
-      let words : ws ++ r ≡ word.Mark 44 0 ∷ is.0 ++ (is.1 ++ r) = ap (λ z. z ++ r) is.2 ∙ ap (λ z. word.Mark 44 0 ∷ z) rest in
+      let words : ws ++ r ≡ word.Mark mark.comma mark.none ∷ is.0 ++ (is.1 ++ r) = ap (λ z. z ++ r) is.2 ∙ ap (λ z. word.Mark mark.comma mark.none ∷ z) rest in
       let item = completes is.0 x is.3 (is.1 ++ r) (behind_item xs is.1 is.4 r ends) in
       let fewer : length (is.1 ++ r) ≤ n =
       let e = ap length words in let f = length-append is.0 (is.1 ++ r) in omega arith in
@@ -79,7 +80,7 @@ module _ {A : Type 0} (p : Parser A) (Item : List Word → A → Type 0) (Behind
       ∙ more_read xs is.1 is.4 n (found ++ x ∷ []) r fewer ends none
       ∙ ap (λ l. Ok (l, r)) (append_assoc found (x ∷ []) xs)
 
-  pub listed_read : (xs : List A) (ws : List Word) → AreListed Item ws xs → (r : Input) → Behind r → sees (sign.Mark 44 0) r ≡ false → Gave (listed p (ws ++ r)) xs r
+  pub listed_read : (xs : List A) (ws : List Word) → AreListed Item ws xs → (r : Input) → Behind r → sees (sign.Mark mark.comma mark.none) r ≡ false → Gave (listed p (ws ++ r)) xs r
   unfolding listed
   listed_read [] ws is r ends none = absurd is
   listed_read (x ∷ xs) ws is r ends none =
@@ -100,31 +101,31 @@ where_read ws (Some e) is =
 -- what follows the last expression of a statement
 record Follows (r : Input) : Type 0 where
   ends : Ends r
-  no_comma : sees (sign.Mark 44 0) r ≡ false
+  no_comma : sees (sign.Mark mark.comma mark.none) r ≡ false
 
 where_follows : (ws : List Word) (c : Option Expr) → IsWhere ws c → Follows ws
 unfolding sees same_key
 where_follows ws None is = subst Follows (sym is) (record { ends = (((((tt, refl), refl), refl), refl), refl); no_comma = refl })
 where_follows ws (Some e) is = subst Follows (sym is.1) (record { ends = (((((tt, refl), refl), refl), refl), refl); no_comma = refl })
 
-comma_ends : (j : Input) → Ends (word.Mark 44 0 ∷ j)
+comma_ends : (j : Input) → Ends (word.Mark mark.comma mark.none ∷ j)
 comma_ends j = (((((tt, refl), refl), refl), refl), refl)
 
 set_read : Completes set_item IsSet Ends
 unfolding set_item name expect sees
 set_read ws item is r ends =
     let f = λ (value : Expr). pure {A = SetItem} (record { column = item.column; value = value }) in
-    let i : Input = word.Mark 61 0 ∷ is.0 ++ r in
+    let i : Input = word.Mark mark.equals mark.none ∷ is.0 ++ r in
     subst (λ z. Gave (set_item (z ++ r)) item r) (sym is.1)
-    (ap (λ b. and_then (take_some (cond b (Some item.column) None) (word.Name item.column ∷ i)) (λ column. expect (sign.Mark 61 0) >> (expr >>= (λ value. pure (record { column = column; value = value }))))) is.2
+    (ap (λ b. and_then (take_some (cond b (Some item.column) None) (word.Name item.column ∷ i)) (λ column. expect (sign.Mark mark.equals mark.none) >> (expr >>= (λ value. pure (record { column = column; value = value }))))) is.2
     ∙ ap (λ out. and_then out f) (expr_read is.0 item.value is.3 r ends))
 
-name_first : (ws : List Word) (names : List (List ℕ)) → AreListed IsName ws names → (r : Input) → sees (sign.Mark 42 0) (ws ++ r) ≡ false
+name_first : (ws : List Word) (names : List (List ℕ)) → AreListed IsName ws names → (r : Input) → sees (sign.Mark mark.star mark.none) (ws ++ r) ≡ false
 unfolding sees
 name_first ws [] is r = absurd is
-name_first ws (t ∷ ts) is r = subst (λ z. sees (sign.Mark 42 0) (z ++ r) ≡ false) (sym (is.2 ∙ ap (λ z. z ++ is.1) is.3.0)) refl
+name_first ws (t ∷ ts) is r = subst (λ z. sees (sign.Mark mark.star mark.none) (z ++ r) ≡ false) (sym (is.2 ∙ ap (λ z. z ++ is.1) is.3.0)) refl
 
-shown_read : (ws : List Word) (c : Option (List (List ℕ))) → AreShown ws c → (r : Input) → sees (sign.Mark 44 0) r ≡ false → Gave (select_list (ws ++ r)) c r
+shown_read : (ws : List Word) (c : Option (List (List ℕ))) → AreShown ws c → (r : Input) → sees (sign.Mark mark.comma mark.none) r ≡ false → Gave (select_list (ws ++ r)) c r
 unfolding select_list after sees
 shown_read ws None is r none = subst (λ z. Gave (select_list (z ++ r)) None r) (sym is) refl
 shown_read ws (Some names) is r none =
@@ -141,12 +142,12 @@ begun_read us begun.Mem is = subst (λ z. Gave (begin z) (st.Begin begun.Mem) []
 begun_read us begun.Store is = subst (λ z. Gave (begin z) (st.Begin begun.Store) []) (sym is) refl
 
 insert_read : (us : List Word) (t : List ℕ) (values : List Value) → is_name t ≡ true → AreListed IsLiteral us values
-    → Gave (insert (word.Key key.Into ∷ word.Name t ∷ word.Key key.Values ∷ word.Mark 40 0 ∷ us ++ word.Mark 41 0 ∷ [])) (st.Insert t values) []
+    → Gave (insert (word.Key key.Into ∷ word.Name t ∷ word.Key key.Values ∷ word.Mark mark.open_paren mark.none ∷ us ++ word.Mark mark.close_paren mark.none ∷ [])) (st.Insert t values) []
 unfolding insert expect sees same_key name
 insert_read us t values named items =
-    let i : Input = word.Key key.Values ∷ word.Mark 40 0 ∷ us ++ word.Mark 41 0 ∷ [] in
-    ap (λ b. and_then (take_some (cond b (Some t) None) (word.Name t ∷ i)) (λ t. expect (sign.Key key.Values) >> (expect (sign.Mark 40 0) >> (listed literal >>= (λ vs. expect (sign.Mark 41 0) >> pure (st.Insert t vs)))))) named
-    ∙ ap (λ out. and_then out (λ vs. expect (sign.Mark 41 0) >> pure (st.Insert t vs))) (listed_read literal IsLiteral Anything literal_read (λ _. tt) values us items (word.Mark 41 0 ∷ []) tt refl)
+    let i : Input = word.Key key.Values ∷ word.Mark mark.open_paren mark.none ∷ us ++ word.Mark mark.close_paren mark.none ∷ [] in
+    ap (λ b. and_then (take_some (cond b (Some t) None) (word.Name t ∷ i)) (λ t. expect (sign.Key key.Values) >> (expect (sign.Mark mark.open_paren mark.none) >> (listed literal >>= (λ vs. expect (sign.Mark mark.close_paren mark.none) >> pure (st.Insert t vs)))))) named
+    ∙ ap (λ out. and_then out (λ vs. expect (sign.Mark mark.close_paren mark.none) >> pure (st.Insert t vs))) (listed_read literal IsLiteral Anything literal_read (λ _. tt) values us items (word.Mark mark.close_paren mark.none ∷ []) tt refl)
 
 from_read : (us : List Word) (t : List ℕ) (c : Option Expr) (f : List ℕ → Option Expr → Statement) → is_name t ≡ true → IsWhere us c
     → Gave ((expect (sign.Key key.From) >> (name >>= (λ t. condition >>= (λ c. pure (f t c))))) (word.Key key.From ∷ word.Name t ∷ us)) (f t c) []

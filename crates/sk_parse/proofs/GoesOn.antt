@@ -37,16 +37,16 @@ same_err n m is = ap (err_or n) is
 
 -- words that go on behind those that were read, at least one, to something that the rule reads where such words follow
 abbrev pub Completion : {A : Type 0} → Parser A → (Input → Type 0) → Input → ℕ → Type 0
-Completion {A} p Stop i n =
-    (u : Word) × (us : List Word) × (vs : List Word) × (zs : List Word) × (a : A) × (i ≡ u ∷ us ++ vs) × (n ≡ length vs) × ((z : Input) → Stop z → Gave (p (u ∷ us ++ (zs ++ z))) a z)
+Completion {A} p Follow i n =
+    (u : Word) × (us : List Word) × (vs : List Word) × (zs : List Word) × (a : A) × (i ≡ u ∷ us ++ vs) × (n ≡ length vs) × ((z : Input) → Follow z → Gave (p (u ∷ us ++ (zs ++ z))) a z)
 
 -- the same, from the start on
 abbrev pub Reach : {A : Type 0} → Parser A → (Input → Type 0) → Input → ℕ → Type 0
-Reach {A} p Stop i n =
-    (us : List Word) × (vs : List Word) × (zs : List Word) × (a : A) × (i ≡ us ++ vs) × (n ≡ length vs) × ((z : Input) → Stop z → Gave (p (us ++ (zs ++ z))) a z)
+Reach {A} p Follow i n =
+    (us : List Word) × (vs : List Word) × (zs : List Word) × (a : A) × (i ≡ us ++ vs) × (n ≡ length vs) × ((z : Input) → Follow z → Gave (p (us ++ (zs ++ z))) a z)
 
 abbrev pub Stable : {A : Type 0} → Parser A → (Input → Type 0) → Type 0
-Stable {A} p Stop = (us : List Word) (r : Input) (a : A) → Gave (p (us ++ r)) a r → (z : Input) → Stop z → Gave (p (us ++ z)) a z
+Stable {A} p Follow = (us : List Word) (r : Input) (a : A) → Gave (p (us ++ r)) a r → (z : Input) → Follow z → Gave (p (us ++ z)) a z
 
 abbrev pub Takes : {A : Type 0} → Parser A → Type 0
 Takes {A} p = (i r : Input) (a : A) → Gave (p i) a r → (u : Word) × (us : List Word) × (i ≡ u ∷ us ++ r)
@@ -55,54 +55,54 @@ abbrev pub Leaves : {A : Type 0} → Parser A → Type 0
 Leaves {A} p = (i r : Input) (a : A) → Gave (p i) a r → (us : List Word) × (i ≡ us ++ r)
 
 -- a rule that takes a word at least
-pub record Weak {A : Type 0} (p : Parser A) (Stop : Input → Type 0) : Type 0 where
+pub record Weak {A : Type 0} (p : Parser A) (Follow : Input → Type 0) : Type 0 where
   pub local : IsLocal p
   pub takes : Takes p
-  pub stable : Stable p Stop
-  pub completes : (i : Input) (n : ℕ) → Fails (p i) n → (n ≡ length i) ⊎ Completion p Stop i n
+  pub stable : Stable p Follow
+  pub completes : (i : Input) (n : ℕ) → Fails (p i) n → (n ≡ length i) ⊎ Completion p Follow i n
 
 -- one that may take nothing, and is never refused at its first word
-pub record Tail {A : Type 0} (p : Parser A) (Stop : Input → Type 0) : Type 0 where
+pub record Tail {A : Type 0} (p : Parser A) (Follow : Input → Type 0) : Type 0 where
   pub local : IsLocal p
   pub leaves : Leaves p
-  pub stops : (a : A) × ((z : Input) → Stop z → Gave (p z) a z)
-  pub stable : Stable p Stop
-  pub completes : (i : Input) (n : ℕ) → Fails (p i) n → Completion p Stop i n
+  pub stops : (a : A) × ((z : Input) → Follow z → Gave (p z) a z)
+  pub stable : Stable p Follow
+  pub completes : (i : Input) (n : ℕ) → Fails (p i) n → Completion p Follow i n
 
 -- one that stands behind a word
-pub record Rest {A : Type 0} (p : Parser A) (Stop : Input → Type 0) : Type 0 where
+pub record Rest {A : Type 0} (p : Parser A) (Follow : Input → Type 0) : Type 0 where
   pub leaves : Leaves p
-  pub stable : Stable p Stop
-  pub completes : (i : Input) (n : ℕ) → Fails (p i) n → Reach p Stop i n
+  pub stable : Stable p Follow
+  pub completes : (i : Input) (n : ℕ) → Fails (p i) n → Reach p Follow i n
 
 -- words that the rule reads
 abbrev pub Fills : {A : Type 0} → Parser A → (Input → Type 0) → Word → List Word → Type 0
-Fills {A} p Stop x fill = (a : A) × ((z : Input) → Stop z → Gave (p (x ∷ fill ++ z)) a z)
+Fills {A} p Follow x fill = (a : A) × ((z : Input) → Follow z → Gave (p (x ∷ fill ++ z)) a z)
 
-pub rest_of : {A : Type 0} (p : Parser A) (Stop : Input → Type 0) (x : Word) (fill : List Word) → Weak p Stop → Fills p Stop x fill → Rest p Stop
-rest_of {A} p Stop x fill weak fills = record {
+pub rest_of : {A : Type 0} (p : Parser A) (Follow : Input → Type 0) (x : Word) (fill : List Word) → Weak p Follow → Fills p Follow x fill → Rest p Follow
+rest_of {A} p Follow x fill weak fills = record {
   leaves = λ i r a is. let t = weak.takes i r a is in (t.0 ∷ t.1, t.2);
   stable = weak.stable;
   completes = λ i n is. by i n (weak.completes i n is);
 }
   where
-    by : (i : Input) (n : ℕ) → (n ≡ length i) ⊎ Completion p Stop i n → Reach p Stop i n
+    by : (i : Input) (n : ℕ) → (n ≡ length i) ⊎ Completion p Follow i n → Reach p Follow i n
     by i n (inl at_once) = ([], i, x ∷ fill, fills.0, refl, at_once, fills.1)
     by i n (inr c) = (c.0 ∷ c.1, c.2, c.3, c.4, c.5, c.6, c.7)
 
-pub rest_pure : {A : Type 0} (a : A) (Stop : Input → Type 0) → Rest (pure a) Stop
-rest_pure a Stop = record {
+pub rest_pure : {A : Type 0} (a : A) (Follow : Input → Type 0) → Rest (pure a) Follow
+rest_pure a Follow = record {
   leaves = λ i r b is. ([], (same a b i r is).1);
   stable = λ us r b is z stop. let s = same a b (us ++ r) r is in ap (λ c. Ok (c, us ++ z)) s.0 ∙ ap (λ l. Ok (b, l ++ z)) (append_cancel_right us [] r s.1);
   completes = λ i n is. absurd cc;
 }
 
-pub tail_pure : {A : Type 0} (a : A) (Stop : Input → Type 0) → IsLocal (pure a) → Tail (pure a) Stop
-tail_pure a Stop local = record {
+pub tail_pure : {A : Type 0} (a : A) (Follow : Input → Type 0) → IsLocal (pure a) → Tail (pure a) Follow
+tail_pure a Follow local = record {
   local = local;
   leaves = λ i r b is. ([], (same a b i r is).1);
   stops = (a, λ z stop. refl);
-  stable = (rest_pure a Stop).stable;
+  stable = (rest_pure a Follow).stable;
   completes = λ i n is. absurd cc;
 }
 
@@ -110,12 +110,12 @@ tail_pure a Stop local = record {
 
 -- it is refused, or taken before a rest, or stands in a rule
 abbrev pub Kind : {A : Type 0} → (Option Word → Parser A) → (Input → Type 0) → Word → Type 0
-Kind {A} g Stop c =
+Kind {A} g Follow c =
     ((j : Input) → g (Some c) (c ∷ j) ≡ Err (length (c ∷ j)))
-    ⊎ (((q : Parser A) × Rest q Stop × ((j : Input) → g (Some c) (c ∷ j) ≡ q j))
-    ⊎ ((p : Parser A) × Weak p Stop × ((j : Input) → g (Some c) (c ∷ j) ≡ p (c ∷ j))))
+    ⊎ (((q : Parser A) × Rest q Follow × ((j : Input) → g (Some c) (c ∷ j) ≡ q j))
+    ⊎ ((p : Parser A) × Weak p Follow × ((j : Input) → g (Some c) (c ∷ j) ≡ p (c ∷ j))))
 
-module _ {A : Type 0} (g : Option Word → Parser A) (Stop : Input → Type 0) (nothing : g None [] ≡ Err 0) (kind : (c : Word) → Kind g Stop c) where
+module _ {A : Type 0} (g : Option Word → Parser A) (Follow : Input → Type 0) (nothing : g None [] ≡ Err 0) (kind : (c : Word) → Kind g Follow c) where
   abbrev At : Parser A
   At i = g (first i) i
 
@@ -123,50 +123,50 @@ module _ {A : Type 0} (g : Option Word → Parser A) (Stop : Input → Type 0) (
   first_takes [] r a is = absurd cc
   first_takes (c ∷ j) r a is = by (kind c)
     where
-      by : Kind g Stop c → (u : Word) × (us : List Word) × (c ∷ j ≡ u ∷ us ++ r)
+      by : Kind g Follow c → (u : Word) × (us : List Word) × (c ∷ j ≡ u ∷ us ++ r)
       by (inl refused) = let bad = refused j in absurd cc
       by (inr (inl (q, rest, at))) = let l = rest.leaves j r a (sym (at j) ∙ is) in (c, l.0, ap (λ k. c ∷ k) l.1)
       by (inr (inr (p, weak, at))) = weak.takes (c ∷ j) r a (sym (at j) ∙ is)
 
-  first_stable : Stable At Stop
+  first_stable : Stable At Follow
   first_stable [] r a is z stop = let t = first_takes r r a is in absurd (longer t.0 t.1 r t.2)
   first_stable (c ∷ us) r a is z stop = by (kind c)
     where
-      by : Kind g Stop c → Gave (At (c ∷ us ++ z)) a z
+      by : Kind g Follow c → Gave (At (c ∷ us ++ z)) a z
       by (inl refused) = let bad = refused (us ++ r) in absurd cc
       by (inr (inl (q, rest, at))) = at (us ++ z) ∙ rest.stable us r a (sym (at (us ++ r)) ∙ is) z stop
       by (inr (inr (p, weak, at))) = at (us ++ z) ∙ weak.stable (c ∷ us) r a (sym (at (us ++ r)) ∙ is) z stop
 
-  first_completes : (i : Input) (n : ℕ) → Fails (At i) n → (n ≡ length i) ⊎ Completion At Stop i n
+  first_completes : (i : Input) (n : ℕ) → Fails (At i) n → (n ≡ length i) ⊎ Completion At Follow i n
   first_completes [] n is = inl (sym (same_err {A = A} 0 n (sym nothing ∙ is)))
   first_completes (c ∷ j) n is = by (kind c)
     where
       moved : (p : Parser A) → ((k : Input) → g (Some c) (c ∷ k) ≡ p (c ∷ k)) → (u : Word) (us zs : List Word) (a : A) (z : Input) → c ≡ u → Gave (p (u ∷ us ++ (zs ++ z))) a z → Gave (At (c ∷ us ++ (zs ++ z))) a z
       moved p at u us zs a z same_word reads = at (us ++ (zs ++ z)) ∙ ap (λ x. p (x ∷ us ++ (zs ++ z))) same_word ∙ reads
 
-      in_rule : (p : Parser A) → ((k : Input) → g (Some c) (c ∷ k) ≡ p (c ∷ k)) → (n ≡ length (c ∷ j)) ⊎ Completion p Stop (c ∷ j) n → (n ≡ length (c ∷ j)) ⊎ Completion At Stop (c ∷ j) n
+      in_rule : (p : Parser A) → ((k : Input) → g (Some c) (c ∷ k) ≡ p (c ∷ k)) → (n ≡ length (c ∷ j)) ⊎ Completion p Follow (c ∷ j) n → (n ≡ length (c ∷ j)) ⊎ Completion At Follow (c ∷ j) n
       in_rule p at (inl at_once) = inl at_once
       in_rule p at (inr (u, us, vs, zs, a, words, len, reads)) =
           let word_is : c ≡ u = cc in
           inr (c, us, vs, zs, a, words ∙ ap (λ x. x ∷ us ++ vs) (sym word_is), len, λ z stop. moved p at u us zs a z word_is (reads z stop))
 
-      by : Kind g Stop c → (n ≡ length (c ∷ j)) ⊎ Completion At Stop (c ∷ j) n
+      by : Kind g Follow c → (n ≡ length (c ∷ j)) ⊎ Completion At Follow (c ∷ j) n
       by (inl refused) = inl (sym (same_err {A = A} (length (c ∷ j)) n (sym (refused j) ∙ is)))
       by (inr (inl (q, rest, at))) =
           let r = rest.completes j n (sym (at j) ∙ is) in
           inr (c, r.0, r.1, r.2, r.3, ap (λ k. c ∷ k) r.4, r.5, λ z stop. at (r.0 ++ (r.2 ++ z)) ∙ r.6 z stop)
       by (inr (inr (p, weak, at))) = in_rule p at (weak.completes (c ∷ j) n (sym (at j) ∙ is))
 
-  pub weak_first : IsLocal At → Weak At Stop
+  pub weak_first : IsLocal At → Weak At Follow
   weak_first local = record { local = local; takes = first_takes; stable = first_stable; completes = first_completes }
 
 -- it ends a rule that may take nothing, or is taken before a rest
 abbrev pub KindTail : {A : Type 0} → (Option Word → Parser A) → (Input → Type 0) → A → Word → Type 0
-KindTail {A} g Stop a c =
-    ((j : Input) → g (Some c) (c ∷ j) ≡ Ok (a, c ∷ j)) ⊎ ((q : Parser A) × Rest q Stop × ((j : Input) → g (Some c) (c ∷ j) ≡ q j))
+KindTail {A} g Follow a c =
+    ((j : Input) → g (Some c) (c ∷ j) ≡ Ok (a, c ∷ j)) ⊎ ((q : Parser A) × Rest q Follow × ((j : Input) → g (Some c) (c ∷ j) ≡ q j))
 
-module _ {A : Type 0} (g : Option Word → Parser A) (Stop : Input → Type 0) (left : A) (nothing : Gave (g None []) left []) (kind : (c : Word) → KindTail g Stop left c)
-    (stops : (z : Input) → Stop z → Gave (g (first z) z) left z) where
+module _ {A : Type 0} (g : Option Word → Parser A) (Follow : Input → Type 0) (left : A) (nothing : Gave (g None []) left []) (kind : (c : Word) → KindTail g Follow left c)
+    (stops : (z : Input) → Follow z → Gave (g (first z) z) left z) where
   abbrev AtTail : Parser A
   AtTail i = g (first i) i
 
@@ -174,7 +174,7 @@ module _ {A : Type 0} (g : Option Word → Parser A) (Stop : Input → Type 0) (
   tail_leaves [] r a is = ([], (same left a [] r (sym nothing ∙ is)).1)
   tail_leaves (c ∷ j) r a is = by (kind c)
     where
-      by : KindTail g Stop left c → (us : List Word) × (c ∷ j ≡ us ++ r)
+      by : KindTail g Follow left c → (us : List Word) × (c ∷ j ≡ us ++ r)
       by (inl ended) = ([], (same left a (c ∷ j) r (sym (ended j) ∙ is)).1)
       by (inr (q, rest, at)) = let l = rest.leaves j r a (sym (at j) ∙ is) in (c ∷ l.0, ap (λ k. c ∷ k) l.1)
 
@@ -186,29 +186,29 @@ module _ {A : Type 0} (g : Option Word → Parser A) (Stop : Input → Type 0) (
       shorter : (us : List Word) → j ≡ us ++ c ∷ j → ⊥
       shorter us words = let l = ap length words in let k = length-append us (c ∷ j) in omega arith
 
-      by : KindTail g Stop left c → left ≡ a
+      by : KindTail g Follow left c → left ≡ a
       by (inl ended) = (same left a (c ∷ j) (c ∷ j) (sym (ended j) ∙ is)).0
       by (inr (q, rest, at)) = let l = rest.leaves j (c ∷ j) a (sym (at j) ∙ is) in absurd (shorter l.0 l.1)
 
-  tail_stable : Stable AtTail Stop
+  tail_stable : Stable AtTail Follow
   tail_stable [] r a is z stop = stops z stop ∙ ap (λ x. Ok (x, z)) (gives_left r a is)
   tail_stable (c ∷ us) r a is z stop = by (kind c)
     where
-      by : KindTail g Stop left c → Gave (AtTail (c ∷ us ++ z)) a z
+      by : KindTail g Follow left c → Gave (AtTail (c ∷ us ++ z)) a z
       by (inl ended) = let s = same left a (c ∷ us ++ r) r (sym (ended (us ++ r)) ∙ is) in absurd (longer c us r (sym s.1))
       by (inr (q, rest, at)) = at (us ++ z) ∙ rest.stable us r a (sym (at (us ++ r)) ∙ is) z stop
 
-  tail_completes : (i : Input) (n : ℕ) → Fails (AtTail i) n → Completion AtTail Stop i n
+  tail_completes : (i : Input) (n : ℕ) → Fails (AtTail i) n → Completion AtTail Follow i n
   tail_completes [] n is = absurd cc
   tail_completes (c ∷ j) n is = by (kind c)
     where
-      by : KindTail g Stop left c → Completion AtTail Stop (c ∷ j) n
+      by : KindTail g Follow left c → Completion AtTail Follow (c ∷ j) n
       by (inl ended) = let bad = ended j in absurd cc
       by (inr (q, rest, at)) =
           let r = rest.completes j n (sym (at j) ∙ is) in
           (c, r.0, r.1, r.2, r.3, ap (λ k. c ∷ k) r.4, r.5, λ z stop. at (r.0 ++ (r.2 ++ z)) ∙ r.6 z stop)
 
-  pub tail_first : IsLocal AtTail → Tail AtTail Stop
+  pub tail_first : IsLocal AtTail → Tail AtTail Follow
   tail_first local = record { local = local; leaves = tail_leaves; stops = (left, stops); stable = tail_stable; completes = tail_completes }
 
 -- ---- one rule behind another
@@ -219,8 +219,8 @@ split_kept p local us i r a x v is words rest z =
     let here : Gave (p (us ++ x ∷ v)) a (x ∷ v) = subst (λ k. Gave (p (us ++ k)) a k) rest (subst (λ k. Gave (p k) a r) words is) in
     kept p local us x v z a here
 
-module _ {A B : Type 0} (p : Parser A) (f : A → Parser B) (Stop Last : Input → Type 0) (weak : Weak p Stop) (local : IsLocal (p >>= f)) where
-  module _ (each : (a : A) → Weak (f a) Last) (y : Word) (gill : List Word) (fills : (a : A) → Fills (f a) Last y gill) (before : (z : Input) → Stop (y ∷ z)) where
+module _ {A B : Type 0} (p : Parser A) (f : A → Parser B) (Follow Last : Input → Type 0) (weak : Weak p Follow) (local : IsLocal (p >>= f)) where
+  module _ (each : (a : A) → Weak (f a) Last) (y : Word) (gill : List Word) (fills : (a : A) → Fills (f a) Last y gill) (before : (z : Input) → Follow (y ∷ z)) where
     bind_takes : Takes (p >>= f)
     bind_takes i r b is =
         let s = bind_ok (p i) f b r is in
@@ -243,7 +243,7 @@ module _ {A B : Type 0} (p : Parser A) (f : A → Parser B) (Stop Last : Input �
     bind_completes : (i : Input) (n : ℕ) → Fails ((p >>= f) i) n → (n ≡ length i) ⊎ Completion (p >>= f) Last i n
     bind_completes i n is = by (p i) refl is
       where
-        in_first : (n ≡ length i) ⊎ Completion p Stop i n → (n ≡ length i) ⊎ Completion (p >>= f) Last i n
+        in_first : (n ≡ length i) ⊎ Completion p Follow i n → (n ≡ length i) ⊎ Completion (p >>= f) Last i n
         in_first (inl at_once) = inl at_once
         in_first (inr (u, us, vs, zs, a, words, len, reads)) =
             let b = fills a in
@@ -296,12 +296,12 @@ module _ {A B : Type 0} (p : Parser A) (f : A → Parser B) (Stop Last : Input �
     pub weak_bind : Weak (p >>= f) Last
     weak_bind = record { local = local; takes = bind_takes; stable = bind_stable; completes = bind_completes }
 
-    pub fills_bind : (x : Word) (fill : List Word) → Fills p Stop x fill → Fills (p >>= f) Last x (fill ++ y ∷ gill)
+    pub fills_bind : (x : Word) (fill : List Word) → Fills p Follow x fill → Fills (p >>= f) Last x (fill ++ y ∷ gill)
     fills_bind x fill is =
         let b = fills is.0 in
         (b.0, λ z stop. ap (λ l. and_then (p l) f) (append_assoc (x ∷ fill) (y ∷ gill) z) ∙ ap (λ o. and_then o f) (is.1 (y ∷ gill ++ z) (before (gill ++ z))) ∙ b.1 z stop)
 
-  module _ (each : (a : A) → Tail (f a) Last) (weaker : (z : Input) → Last z → Stop z) where
+  module _ (each : (a : A) → Tail (f a) Last) (weaker : (z : Input) → Last z → Follow z) where
     then_takes : Takes (p >>= f)
     then_takes i r b is =
         let s = bind_ok (p i) f b r is in
@@ -326,7 +326,7 @@ module _ {A B : Type 0} (p : Parser A) (f : A → Parser B) (Stop Last : Input �
     then_completes : (i : Input) (n : ℕ) → Fails ((p >>= f) i) n → (n ≡ length i) ⊎ Completion (p >>= f) Last i n
     then_completes i n is = by (p i) refl is
       where
-        in_first : (n ≡ length i) ⊎ Completion p Stop i n → (n ≡ length i) ⊎ Completion (p >>= f) Last i n
+        in_first : (n ≡ length i) ⊎ Completion p Follow i n → (n ≡ length i) ⊎ Completion (p >>= f) Last i n
         in_first (inl at_once) = inl at_once
         in_first (inr (u, us, vs, zs, a, words, len, reads)) =
             let b = (each a).stops in
@@ -355,7 +355,7 @@ module _ {A B : Type 0} (p : Parser A) (f : A → Parser B) (Stop Last : Input �
     pub weak_then : Weak (p >>= f) Last
     weak_then = record { local = local; takes = then_takes; stable = then_stable; completes = then_completes }
 
-    pub fills_then : (x : Word) (fill : List Word) → Fills p Stop x fill → Fills (p >>= f) Last x fill
+    pub fills_then : (x : Word) (fill : List Word) → Fills p Follow x fill → Fills (p >>= f) Last x fill
     fills_then x fill is =
         let b = (each is.0).stops in
         (b.0, λ z stop. ap (λ o. and_then o f) (is.1 z (weaker z stop)) ∙ b.1 z stop)

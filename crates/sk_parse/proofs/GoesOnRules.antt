@@ -10,6 +10,7 @@ use Rattle.sk_rows.specs.declared.value.Value.TheVariants as value
 use Rattle.sk_rows.specs.declared.expr.Op.{Op}
 use Rattle.sk_rows.specs.declared.expr.Expr.{Expr}
 use Rattle.sk_rows.specs.declared.expr.Expr.TheVariants as e
+use Rattle.sk_lex.specs.Marks as mark
 use Rattle.sk_parse.specs.declared.cursor.Sign.{Sign}
 use Rattle.sk_parse.specs.declared.cursor.Sign.TheVariants as sign
 use Rattle.sk_parse.specs.declared.terms.Level.TheVariants as level
@@ -30,34 +31,34 @@ ext p q is = λ k i. is i k
 pub is_pure_local : {A : Type 0} (a : A) → IsLocal (pure a)
 is_pure_local a w vs zs = local_pure w vs zs a
 
-pub tail_end : {A : Type 0} (a : A) (Stop : Input → Type 0) → Tail (pure a) Stop
-tail_end a Stop = tail_pure a Stop (is_pure_local a)
+pub tail_end : {A : Type 0} (a : A) (Follow : Input → Type 0) → Tail (pure a) Follow
+tail_end a Follow = tail_pure a Follow (is_pure_local a)
 
 pub bind_local : {A B : Type 0} (p : Parser A) (f : A → Parser B) → IsLocal p → ((a : A) → IsLocal (f a)) → IsLocal (p >>= f)
 bind_local p f here each w vs zs = local_bind w vs zs p f (here w vs zs) (λ a. each a w vs zs)
 
 -- one rule behind another, that takes a word
-pub both : {A B : Type 0} (p : Parser A) (f : A → Parser B) (Stop Last : Input → Type 0) → Weak p Stop → ((a : A) → Weak (f a) Last) → (y : Word) (gill : List Word) → ((a : A) → Fills (f a) Last y gill)
-    → ((z : Input) → Stop (y ∷ z)) → Weak (p >>= f) Last
-both p f Stop Last weak each y gill fills before = weak_bind p f Stop Last weak (bind_local p f weak.local (λ a. (each a).local)) each y gill fills before
+pub both : {A B : Type 0} (p : Parser A) (f : A → Parser B) (Follow Last : Input → Type 0) → Weak p Follow → ((a : A) → Weak (f a) Last) → (y : Word) (gill : List Word) → ((a : A) → Fills (f a) Last y gill)
+    → ((z : Input) → Follow (y ∷ z)) → Weak (p >>= f) Last
+both p f Follow Last weak each y gill fills before = weak_bind p f Follow Last weak (bind_local p f weak.local (λ a. (each a).local)) each y gill fills before
 
-pub fill_both : {A B : Type 0} (p : Parser A) (f : A → Parser B) (Stop Last : Input → Type 0) → Weak p Stop → ((a : A) → Weak (f a) Last) → (y : Word) (gill : List Word) → ((a : A) → Fills (f a) Last y gill)
-    → ((z : Input) → Stop (y ∷ z)) → (x : Word) (fill : List Word) → Fills p Stop x fill → Fills (p >>= f) Last x (fill ++ y ∷ gill)
-fill_both p f Stop Last weak each y gill fills before x fill is = fills_bind p f Stop Last weak (bind_local p f weak.local (λ a. (each a).local)) each y gill fills before x fill is
+pub fill_both : {A B : Type 0} (p : Parser A) (f : A → Parser B) (Follow Last : Input → Type 0) → Weak p Follow → ((a : A) → Weak (f a) Last) → (y : Word) (gill : List Word) → ((a : A) → Fills (f a) Last y gill)
+    → ((z : Input) → Follow (y ∷ z)) → (x : Word) (fill : List Word) → Fills p Follow x fill → Fills (p >>= f) Last x (fill ++ y ∷ gill)
+fill_both p f Follow Last weak each y gill fills before x fill is = fills_bind p f Follow Last weak (bind_local p f weak.local (λ a. (each a).local)) each y gill fills before x fill is
 
 -- one rule behind another, that may take nothing
-pub tailed : {A B : Type 0} (p : Parser A) (f : A → Parser B) (Stop Last : Input → Type 0) → Weak p Stop → ((a : A) → Tail (f a) Last) → ((z : Input) → Last z → Stop z) → Weak (p >>= f) Last
-tailed p f Stop Last weak each weaker = weak_then p f Stop Last weak (bind_local p f weak.local (λ a. (each a).local)) each weaker
+pub tailed : {A B : Type 0} (p : Parser A) (f : A → Parser B) (Follow Last : Input → Type 0) → Weak p Follow → ((a : A) → Tail (f a) Last) → ((z : Input) → Last z → Follow z) → Weak (p >>= f) Last
+tailed p f Follow Last weak each weaker = weak_then p f Follow Last weak (bind_local p f weak.local (λ a. (each a).local)) each weaker
 
-pub fill_tailed : {A B : Type 0} (p : Parser A) (f : A → Parser B) (Stop Last : Input → Type 0) → Weak p Stop → ((a : A) → Tail (f a) Last) → ((z : Input) → Last z → Stop z)
-    → (x : Word) (fill : List Word) → Fills p Stop x fill → Fills (p >>= f) Last x fill
-fill_tailed p f Stop Last weak each weaker x fill is = fills_then p f Stop Last weak (bind_local p f weak.local (λ a. (each a).local)) each weaker x fill is
+pub fill_tailed : {A B : Type 0} (p : Parser A) (f : A → Parser B) (Follow Last : Input → Type 0) → Weak p Follow → ((a : A) → Tail (f a) Last) → ((z : Input) → Last z → Follow z)
+    → (x : Word) (fill : List Word) → Fills p Follow x fill → Fills (p >>= f) Last x fill
+fill_tailed p f Follow Last weak each weaker x fill is = fills_then p f Follow Last weak (bind_local p f weak.local (λ a. (each a).local)) each weaker x fill is
 
-pub mapped : {A B : Type 0} (f : A → B) (p : Parser A) (Stop : Input → Type 0) → Weak p Stop → Weak (f <$> p) Stop
-mapped f p Stop weak = tailed p (λ x. pure (f x)) Stop Stop weak (λ x. tail_end (f x) Stop) (λ z stop. stop)
+pub mapped : {A B : Type 0} (f : A → B) (p : Parser A) (Follow : Input → Type 0) → Weak p Follow → Weak (f <$> p) Follow
+mapped f p Follow weak = tailed p (λ x. pure (f x)) Follow Follow weak (λ x. tail_end (f x) Follow) (λ z stop. stop)
 
-pub fill_mapped : {A B : Type 0} (f : A → B) (p : Parser A) (Stop : Input → Type 0) → Weak p Stop → (x : Word) (fill : List Word) → Fills p Stop x fill → Fills (f <$> p) Stop x fill
-fill_mapped f p Stop weak x fill is = fill_tailed p (λ x. pure (f x)) Stop Stop weak (λ x. tail_end (f x) Stop) (λ z stop. stop) x fill is
+pub fill_mapped : {A B : Type 0} (f : A → B) (p : Parser A) (Follow : Input → Type 0) → Weak p Follow → (x : Word) (fill : List Word) → Fills p Follow x fill → Fills (f <$> p) Follow x fill
+fill_mapped f p Follow weak x fill is = fill_tailed p (λ x. pure (f x)) Follow Follow weak (λ x. tail_end (f x) Follow) (λ z stop. stop) x fill is
 
 -- ---- by a sign
 
@@ -85,13 +86,13 @@ is_eaten s p q = ext (λ i. cond (sees s i) (p (next i)) (q i)) (eat s >>= (λ b
     by true i = refl
     by false i = refl
 
-pub kind_cond : {A : Type 0} (t : Bool) (p q : Parser A) (Stop : Input → Type 0) (c : Word) → (t ≡ true → Kind (λ _. p) Stop c) → (t ≡ false → Kind (λ _. q) Stop c) → Kind (λ _ i. cond t (p i) (q i)) Stop c
-kind_cond true p q Stop c yes_kind no_kind = yes_kind refl
-kind_cond false p q Stop c yes_kind no_kind = no_kind refl
+pub kind_cond : {A : Type 0} (t : Bool) (p q : Parser A) (Follow : Input → Type 0) (c : Word) → (t ≡ true → Kind (λ _. p) Follow c) → (t ≡ false → Kind (λ _. q) Follow c) → Kind (λ _ i. cond t (p i) (q i)) Follow c
+kind_cond true p q Follow c yes_kind no_kind = yes_kind refl
+kind_cond false p q Follow c yes_kind no_kind = no_kind refl
 
-pub kind_tail_cond : {A : Type 0} (t : Bool) (p q : Parser A) (Stop : Input → Type 0) (a : A) (c : Word) → KindTail (λ _. p) Stop a c → KindTail (λ _. q) Stop a c → KindTail (λ _ i. cond t (p i) (q i)) Stop a c
-kind_tail_cond true p q Stop a c yes_kind no_kind = yes_kind
-kind_tail_cond false p q Stop a c yes_kind no_kind = no_kind
+pub kind_tail_cond : {A : Type 0} (t : Bool) (p q : Parser A) (Follow : Input → Type 0) (a : A) (c : Word) → KindTail (λ _. p) Follow a c → KindTail (λ _. q) Follow a c → KindTail (λ _ i. cond t (p i) (q i)) Follow a c
+kind_tail_cond true p q Follow a c yes_kind no_kind = yes_kind
+kind_tail_cond false p q Follow a c yes_kind no_kind = no_kind
 
 pub chosen_local : {A : Type 0} (s : Sign) (p q : Parser A) → IsLocal p → IsLocal q → IsLocal (λ i. chosen s p q (first i) i)
 chosen_local s p q here there w vs zs = local_first w vs zs (chosen s p q) (λ o. local_cond w vs zs (front_is s o) p q (here w vs zs) (there w vs zs))
@@ -103,37 +104,37 @@ refuse_local : {A : Type 0} → IsLocal {A = A} refuse
 refuse_local w vs zs = local_refuse w vs zs
 
 -- a rule by whether a sign stands at the front
-pub weak_if : {A : Type 0} (s : Sign) (p q : Parser A) (Stop : Input → Type 0) → IsLocal p → IsLocal q → q [] ≡ Err 0 → ((c : Word) → is_at s c ≡ true → Kind (λ _. p) Stop c) → ((c : Word) → is_at s c ≡ false → Kind (λ _. q) Stop c)
-    → Weak (λ i. cond (sees s i) (p i) (q i)) Stop
-weak_if s p q Stop here there nothing yes_kind no_kind =
-    subst (λ r. Weak r Stop) (is_chosen s p q)
-    (weak_first (chosen s p q) Stop nothing (λ c. kind_cond (is_at s c) p q Stop c (yes_kind c) (no_kind c)) (chosen_local s p q here there))
+pub weak_if : {A : Type 0} (s : Sign) (p q : Parser A) (Follow : Input → Type 0) → IsLocal p → IsLocal q → q [] ≡ Err 0 → ((c : Word) → is_at s c ≡ true → Kind (λ _. p) Follow c) → ((c : Word) → is_at s c ≡ false → Kind (λ _. q) Follow c)
+    → Weak (λ i. cond (sees s i) (p i) (q i)) Follow
+weak_if s p q Follow here there nothing yes_kind no_kind =
+    subst (λ r. Weak r Follow) (is_chosen s p q)
+    (weak_first (chosen s p q) Follow nothing (λ c. kind_cond (is_at s c) p q Follow c (yes_kind c) (no_kind c)) (chosen_local s p q here there))
 
-pub weak_expect : (s : Sign) (Stop : Input → Type 0) → Weak (expect s) Stop
+pub weak_expect : (s : Sign) (Follow : Input → Type 0) → Weak (expect s) Follow
 unfolding expect
-weak_expect s Stop =
-    weak_if s (λ i. pure tt (next i)) refuse Stop (next_local (pure tt) (is_pure_local tt)) refuse_local refl
-    (λ c at. inr (inl (pure tt, rest_pure tt Stop, λ j. refl))) (λ c at. inl (λ j. refl))
+weak_expect s Follow =
+    weak_if s (λ i. pure tt (next i)) refuse Follow (next_local (pure tt) (is_pure_local tt)) refuse_local refl
+    (λ c at. inr (inl (pure tt, rest_pure tt Follow, λ j. refl))) (λ c at. inl (λ j. refl))
 
-pub fill_expect : (s : Sign) (Stop : Input → Type 0) (x : Word) → is_at s x ≡ true → Fills (expect s) Stop x []
+pub fill_expect : (s : Sign) (Follow : Input → Type 0) (x : Word) → is_at s x ≡ true → Fills (expect s) Follow x []
 unfolding expect sees
-fill_expect s Stop x at = (tt, λ z stop. ap (λ t. cond t (Ok (tt, z)) (refuse (x ∷ z))) at)
+fill_expect s Follow x at = (tt, λ z stop. ap (λ t. cond t (Ok (tt, z)) (refuse (x ∷ z))) at)
 
 -- ---- words
 
-kind_some : {A : Type 0} (found : Option A) (Stop : Input → Type 0) (c : Word) → Kind (λ _. take_some found) Stop c
-kind_some None Stop c = inl (λ j. refl)
-kind_some (Some a) Stop c = inr (inl (pure a, rest_pure a Stop, λ j. refl))
+kind_some : {A : Type 0} (found : Option A) (Follow : Input → Type 0) (c : Word) → Kind (λ _. take_some found) Follow c
+kind_some None Follow c = inl (λ j. refl)
+kind_some (Some a) Follow c = inr (inl (pure a, rest_pure a Follow, λ j. refl))
 
-pub weak_taken : {A : Type 0} (f : Word → Option A) (Stop : Input → Type 0) → Weak (taken f) Stop
-weak_taken f Stop = weak_first (take_by f) Stop refl (λ c. kind_some (f c) Stop c) (λ w vs zs. local_taken w vs zs f)
+pub weak_taken : {A : Type 0} (f : Word → Option A) (Follow : Input → Type 0) → Weak (taken f) Follow
+weak_taken f Follow = weak_first (take_by f) Follow refl (λ c. kind_some (f c) Follow c) (λ w vs zs. local_taken w vs zs f)
 
-pub fill_taken : {A : Type 0} (f : Word → Option A) (Stop : Input → Type 0) (x : Word) (a : A) → f x ≡ Some a → Fills (taken f) Stop x []
-fill_taken f Stop x a is = (a, λ z stop. ap (λ o. take_some o (x ∷ z)) is)
+pub fill_taken : {A : Type 0} (f : Word → Option A) (Follow : Input → Type 0) (x : Word) (a : A) → f x ≡ Some a → Fills (taken f) Follow x []
+fill_taken f Follow x a is = (a, λ z stop. ap (λ o. take_some o (x ∷ z)) is)
 
-pub weak_name : (Stop : Input → Type 0) → Weak name Stop
+pub weak_name : (Follow : Input → Type 0) → Weak name Follow
 unfolding name
-weak_name Stop = weak_taken name_of Stop
+weak_name Follow = weak_taken name_of Follow
 
 abbrev pub some_name : Word
 some_name = word.Name (codes "a")
@@ -141,28 +142,28 @@ some_name = word.Name (codes "a")
 abbrev pub one : Word
 one = word.Number 1
 
-pub fill_name : (Stop : Input → Type 0) → Fills name Stop some_name []
+pub fill_name : (Follow : Input → Type 0) → Fills name Follow some_name []
 unfolding name is_name has_name_length begins_with_digit are_name_bytes is_keyword
-fill_name Stop = fill_taken name_of Stop some_name (codes "a") refl
+fill_name Follow = fill_taken name_of Follow some_name (codes "a") refl
 
-pub weak_literal : (Stop : Input → Type 0) → Weak literal Stop
+pub weak_literal : (Follow : Input → Type 0) → Weak literal Follow
 unfolding literal plain negative
-weak_literal Stop =
-    subst (λ r. Weak r Stop) (is_eaten (sign.Mark 45 0) (taken negative_of) (taken value_of))
-    (weak_if (sign.Mark 45 0) (λ i. taken negative_of (next i)) (taken value_of) Stop (next_local (taken negative_of) (weak_taken negative_of Stop).local) (weak_taken value_of Stop).local refl
-    (λ c at. inr (inl (taken negative_of, rest_of (taken negative_of) Stop one [] (weak_taken negative_of Stop) (fill_taken negative_of Stop one (value.Int (negsuc 0)) refl), λ j. refl)))
-    (λ c at. inr (inr (taken value_of, weak_taken value_of Stop, λ j. refl))))
+weak_literal Follow =
+    subst (λ r. Weak r Follow) (is_eaten (sign.Mark mark.minus mark.none) (taken negative_of) (taken value_of))
+    (weak_if (sign.Mark mark.minus mark.none) (λ i. taken negative_of (next i)) (taken value_of) Follow (next_local (taken negative_of) (weak_taken negative_of Follow).local) (weak_taken value_of Follow).local refl
+    (λ c at. inr (inl (taken negative_of, rest_of (taken negative_of) Follow one [] (weak_taken negative_of Follow) (fill_taken negative_of Follow one (value.Int (negsuc 0)) refl), λ j. refl)))
+    (λ c at. inr (inr (taken value_of, weak_taken value_of Follow, λ j. refl))))
 
-pub fill_literal : (Stop : Input → Type 0) → Fills literal Stop one []
+pub fill_literal : (Follow : Input → Type 0) → Fills literal Follow one []
 unfolding literal plain negative after sees
-fill_literal Stop = (value.Int (pos 1), λ z stop. refl)
+fill_literal Follow = (value.Int (pos 1), λ z stop. refl)
 
 -- ---- turns
 
-pub weak_nothing : {A : Type 0} (p : Parser A) (Stop : Input → Type 0) → Weak p Stop → p [] ≡ Err 0
-weak_nothing {A} p Stop weak = by (p []) refl
+pub weak_nothing : {A : Type 0} (p : Parser A) (Follow : Input → Type 0) → Weak p Follow → p [] ≡ Err 0
+weak_nothing {A} p Follow weak = by (p []) refl
   where
-    at_once : (n : ℕ) → (n ≡ 0) ⊎ Completion p Stop [] n → n ≡ 0
+    at_once : (n : ℕ) → (n ≡ 0) ⊎ Completion p Follow [] n → n ≡ 0
     at_once n (inl is) = is
     at_once n (inr c) = absurd (cc c.5)
 
@@ -170,8 +171,8 @@ weak_nothing {A} p Stop weak = by (p []) refl
     by (Ok q) is = absurd (cc (weak.takes [] q.1 q.0 is).2)
     by (Err n) is = ap Err (at_once n (weak.completes [] n is))
 
-weak_shrinks : {A : Type 0} (p : Parser A) (Stop : Input → Type 0) → Weak p Stop → (i r : Input) (a : A) → Gave (p i) a r → length r ≤ length i
-weak_shrinks p Stop weak i r a is = let t = weak.takes i r a is in let l = ap length t.2 in let k = length-append (t.0 ∷ t.1) r in omega arith
+weak_shrinks : {A : Type 0} (p : Parser A) (Follow : Input → Type 0) → Weak p Follow → (i r : Input) (a : A) → Gave (p i) a r → length r ≤ length i
+weak_shrinks p Follow weak i r a is = let t = weak.takes i r a is in let l = ap length t.2 in let k = length-append (t.0 ∷ t.1) r in omega arith
 
 -- more turns change nothing where no operator is left
 grows : (ops : Word → Option Op) (operand : Parser Expr) (n m : ℕ) (left : Expr) (i : Input) (y : Expr) (r : Input) → n ≤ m → Gave (more ops operand n left i) y r → None_at ops r → Gave (more ops operand m left i) y r
@@ -192,15 +193,15 @@ grows ops operand (suc n) (suc m) left i y r le is none = by (found_by ops (firs
     by None given ih = given
     by (Some o) given ih = on o (operand (next i)) given ih
 
-module _ (ops : Word → Option Op) (operand : Parser Expr) (Stop : Input → Type 0) (weak : Weak operand Stop) (x : Word) (fill : List Word) (fills : Fills operand Stop x fill) where
+module _ (ops : Word → Option Op) (operand : Parser Expr) (Follow : Input → Type 0) (weak : Weak operand Follow) (x : Word) (fill : List Word) (fills : Fills operand Follow x fill) where
   abbrev Last : Input → Type 0
-  Last z = Stop z × None_at ops z
+  Last z = Follow z × None_at ops z
 
   kind_on : (n : ℕ) (left : Expr) → ((y : Expr) → Tail (more ops operand n y) Last) → (c : Word) (found : Option Op) → KindTail (λ _. more_on operand (more ops operand n) left found) Last left c
   kind_on n left each c None = inl (λ j. refl)
   kind_on n left each c (Some o) =
       let f = λ (right : Expr). more ops operand n (e.Two o left right) in
-      inr (operand >>= f, rest_of (operand >>= f) Last x fill (tailed operand f Stop Last weak (λ right. each (e.Two o left right)) (λ z stop. stop.0)) (fill_tailed operand f Stop Last weak (λ right. each (e.Two o left right)) (λ z stop. stop.0) x fill fills), λ j. refl)
+      inr (operand >>= f, rest_of (operand >>= f) Last x fill (tailed operand f Follow Last weak (λ right. each (e.Two o left right)) (λ z stop. stop.0)) (fill_tailed operand f Follow Last weak (λ right. each (e.Two o left right)) (λ z stop. stop.0) x fill fills), λ j. refl)
 
   tail_more : (n : ℕ) (left : Expr) → Tail (more ops operand n left) Last
   unfolding more
@@ -216,7 +217,7 @@ module _ (ops : Word → Option Op) (operand : Parser Expr) (Stop : Input → Ty
       by true at = grows ops operand n (length i) left i y r (leb-true n (length i) at) is none
       by false at =
           let less = leb-false n (length i) at in
-          sym (fuel ops operand (weak_shrinks operand Stop weak) n (length i) left i (omega arith) (omega arith)) ∙ is
+          sym (fuel ops operand (weak_shrinks operand Follow weak) n (length i) left i (omega arith) (omega arith)) ∙ is
 
   tail_turns : (left : Expr) → Tail (λ i. more ops operand (length i) left i) Last
   tail_turns left = record {
@@ -225,8 +226,8 @@ module _ (ops : Word → Option Op) (operand : Parser Expr) (Stop : Input → Ty
     stops = (left, λ z stop. more_none ops operand (length z) left z stop.1);
     stable = λ us r a is z stop.
         let n = length (us ++ r) + length (us ++ z) in
-        let before = fuel ops operand (weak_shrinks operand Stop weak) n (length (us ++ r)) left (us ++ r) (omega arith) (omega arith) in
-        let behind = fuel ops operand (weak_shrinks operand Stop weak) n (length (us ++ z)) left (us ++ z) (omega arith) (omega arith) in
+        let before = fuel ops operand (weak_shrinks operand Follow weak) n (length (us ++ r)) left (us ++ r) (omega arith) (omega arith) in
+        let behind = fuel ops operand (weak_shrinks operand Follow weak) n (length (us ++ z)) left (us ++ z) (omega arith) (omega arith) in
         sym behind ∙ (tail_more n left).stable us r a (before ∙ is) z stop;
     completes = λ i n is.
         let c = (tail_more (length i) left).completes i n is in
@@ -235,16 +236,16 @@ module _ (ops : Word → Option Op) (operand : Parser Expr) (Stop : Input → Ty
 
   pub weak_chained : Weak (chained ops operand) Last
   unfolding chained
-  weak_chained = tailed operand (λ left i. more ops operand (length i) left i) Stop Last weak tail_turns (λ z stop. stop.0)
+  weak_chained = tailed operand (λ left i. more ops operand (length i) left i) Follow Last weak tail_turns (λ z stop. stop.0)
 
   pub fill_chained : Fills (chained ops operand) Last x fill
   unfolding chained
-  fill_chained = fill_tailed operand (λ left i. more ops operand (length i) left i) Stop Last weak tail_turns (λ z stop. stop.0) x fill fills
+  fill_chained = fill_tailed operand (λ left i. more ops operand (length i) left i) Follow Last weak tail_turns (λ z stop. stop.0) x fill fills
 
 -- ---- lists
 
 abbrev pub NoComma : Input → Type 0
-NoComma z = sees (sign.Mark 44 0) z ≡ false
+NoComma z = sees (sign.Mark mark.comma mark.none) z ≡ false
 
 no_more : {A : Type 0} (item : Parser A) (n : ℕ) (found : List A) (r : Input) → NoComma r → Gave (listed_from item n found r) found r
 unfolding listed_from after
@@ -257,7 +258,7 @@ list_grows item zero m found i ys r le is none =
     let s = same found ys i r is in
     subst (λ k. Gave (listed_from item m found k) ys r) (sym s.1) (subst (λ l. Gave (listed_from item m found r) l r) s.0 (no_more item m found r none))
 list_grows item (suc n) zero found i ys r le is none = absurd (omega arith)
-list_grows {A} item (suc n) (suc m) found i ys r le is none = by (sees (sign.Mark 44 0) i) is (λ l j given. list_grows item n m l j ys r (omega arith) given none)
+list_grows {A} item (suc n) (suc m) found i ys r le is none = by (sees (sign.Mark mark.comma mark.none) i) is (λ l j given. list_grows item n m l j ys r (omega arith) given none)
   where
     on : (out : Outcome A) → Gave (and_then out (λ y. listed_from item n (found ++ y ∷ []))) ys r
         → ((l : List A) (j : Input) → Gave (listed_from item n l j) ys r → Gave (listed_from item m l j) ys r) → Gave (and_then out (λ y. listed_from item m (found ++ y ∷ []))) ys r
@@ -270,9 +271,9 @@ list_grows {A} item (suc n) (suc m) found i ys r le is none = by (sees (sign.Mar
     by true given ih = on (item (next i)) given ih
     by false given ih = given
 
-module _ {A : Type 0} (item : Parser A) (Stop : Input → Type 0) (weak : Weak item Stop) (x : Word) (fill : List Word) (fills : Fills item Stop x fill) where
+module _ {A : Type 0} (item : Parser A) (Follow : Input → Type 0) (weak : Weak item Follow) (x : Word) (fill : List Word) (fills : Fills item Follow x fill) where
   abbrev Behind : Input → Type 0
-  Behind z = Stop z × NoComma z
+  Behind z = Follow z × NoComma z
 
   tail_listed : (n : ℕ) (found : List A) → Tail (listed_from item n found) Behind
   unfolding listed_from
@@ -282,20 +283,20 @@ module _ {A : Type 0} (item : Parser A) (Stop : Input → Type 0) (weak : Weak i
       f : A → Parser (List A)
       f y = listed_from item n (found ++ y ∷ [])
 
-      by : ((l : List A) → Tail (listed_from item n l) Behind) → Tail (eat (sign.Mark 44 0) >>= (λ b. cond b (item >>= f) (pure found))) Behind
+      by : ((l : List A) → Tail (listed_from item n l) Behind) → Tail (eat (sign.Mark mark.comma mark.none) >>= (λ b. cond b (item >>= f) (pure found))) Behind
       by each =
           let p = item >>= f in
-          let here = tailed item f Stop Behind weak (λ y. each (found ++ y ∷ [])) (λ z stop. stop.0) in
-          let filled = fill_tailed item f Stop Behind weak (λ y. each (found ++ y ∷ [])) (λ z stop. stop.0) x fill fills in
-          subst (λ r. Tail r Behind) (is_eaten (sign.Mark 44 0) p (pure found))
-          (subst (λ r. Tail r Behind) (is_chosen (sign.Mark 44 0) (λ i. p (next i)) (pure found))
-          (tail_first (chosen (sign.Mark 44 0) (λ i. p (next i)) (pure found)) Behind found refl
-          (λ c. kind_tail_cond (is_at (sign.Mark 44 0) c) (λ i. p (next i)) (pure found) Behind found c (inr (p, rest_of p Behind x fill here filled, λ j. refl)) (inl (λ j. refl)))
-          (λ z stop. ap (λ b. cond b (p (next z)) (pure found z)) (front_sees (sign.Mark 44 0) z ∙ stop.1))
-          (chosen_local (sign.Mark 44 0) (λ i. p (next i)) (pure found) (next_local p here.local) (is_pure_local found))))
+          let here = tailed item f Follow Behind weak (λ y. each (found ++ y ∷ [])) (λ z stop. stop.0) in
+          let filled = fill_tailed item f Follow Behind weak (λ y. each (found ++ y ∷ [])) (λ z stop. stop.0) x fill fills in
+          subst (λ r. Tail r Behind) (is_eaten (sign.Mark mark.comma mark.none) p (pure found))
+          (subst (λ r. Tail r Behind) (is_chosen (sign.Mark mark.comma mark.none) (λ i. p (next i)) (pure found))
+          (tail_first (chosen (sign.Mark mark.comma mark.none) (λ i. p (next i)) (pure found)) Behind found refl
+          (λ c. kind_tail_cond (is_at (sign.Mark mark.comma mark.none) c) (λ i. p (next i)) (pure found) Behind found c (inr (p, rest_of p Behind x fill here filled, λ j. refl)) (inl (λ j. refl)))
+          (λ z stop. ap (λ b. cond b (p (next z)) (pure found z)) (front_sees (sign.Mark mark.comma mark.none) z ∙ stop.1))
+          (chosen_local (sign.Mark mark.comma mark.none) (λ i. p (next i)) (pure found) (next_local p here.local) (is_pure_local found))))
 
   fuel_of : (n m : ℕ) (found : List A) (i : Input) → length i ≤ n → length i ≤ m → listed_from item n found i ≡ listed_from item m found i
-  fuel_of = list_fuel (word.Mark 0 0) [] [] item (weak_shrinks item Stop weak)
+  fuel_of = list_fuel (word.Mark 0 0) [] [] item (weak_shrinks item Follow weak)
 
   list_enough : (n : ℕ) (found : List A) (i : Input) (ys : List A) (r : Input) → Gave (listed_from item n found i) ys r → NoComma r → Gave (listed_from item (length i) found i) ys r
   list_enough n found i ys r is none = by (nat_le n (length i)) refl
@@ -323,48 +324,48 @@ module _ {A : Type 0} (item : Parser A) (Stop : Input → Type 0) (weak : Weak i
 
   pub weak_listed : Weak (listed item) Behind
   unfolding listed
-  weak_listed = tailed item (λ y i. listed_from item (length i) (y ∷ []) i) Stop Behind weak tail_rest (λ z stop. stop.0)
+  weak_listed = tailed item (λ y i. listed_from item (length i) (y ∷ []) i) Follow Behind weak tail_rest (λ z stop. stop.0)
 
   pub fill_listed : Fills (listed item) Behind x fill
   unfolding listed
-  fill_listed = fill_tailed item (λ y i. listed_from item (length i) (y ∷ []) i) Stop Behind weak tail_rest (λ z stop. stop.0) x fill fills
+  fill_listed = fill_tailed item (λ y i. listed_from item (length i) (y ∷ []) i) Follow Behind weak tail_rest (λ z stop. stop.0) x fill fills
 
 -- ---- expressions
 
 abbrev opened : Word
-opened = word.Mark 40 0
+opened = word.Mark mark.open_paren mark.none
 
 abbrev closed : Word
-closed = word.Mark 41 0
+closed = word.Mark mark.close_paren mark.none
 
 -- ")" behind what stands in parentheses
-weak_close : (inner : Expr) → Weak (expect (sign.Mark 41 0) >> pure inner) Anything
-weak_close inner = tailed (expect (sign.Mark 41 0)) (λ _. pure inner) Anything Anything (weak_expect (sign.Mark 41 0) Anything) (λ _. tail_end inner Anything) (λ z stop. stop)
+weak_close : (inner : Expr) → Weak (expect (sign.Mark mark.close_paren mark.none) >> pure inner) Anything
+weak_close inner = tailed (expect (sign.Mark mark.close_paren mark.none)) (λ _. pure inner) Anything Anything (weak_expect (sign.Mark mark.close_paren mark.none) Anything) (λ _. tail_end inner Anything) (λ z stop. stop)
 
-fill_close : (inner : Expr) → Fills (expect (sign.Mark 41 0) >> pure inner) Anything closed []
+fill_close : (inner : Expr) → Fills (expect (sign.Mark mark.close_paren mark.none) >> pure inner) Anything closed []
 fill_close inner =
-    fill_tailed (expect (sign.Mark 41 0)) (λ _. pure inner) Anything Anything (weak_expect (sign.Mark 41 0) Anything) (λ _. tail_end inner Anything) (λ z stop. stop) closed []
-    (fill_expect (sign.Mark 41 0) Anything closed refl)
+    fill_tailed (expect (sign.Mark mark.close_paren mark.none)) (λ _. pure inner) Anything Anything (weak_expect (sign.Mark mark.close_paren mark.none) Anything) (λ _. tail_end inner Anything) (λ z stop. stop) closed []
+    (fill_expect (sign.Mark mark.close_paren mark.none) Anything closed refl)
 
-module _ (p : Parser Expr) (Stop : Input → Type 0) (weak : Weak p Stop) (fills : Fills p Stop one []) (before : (z : Input) → Stop (closed ∷ z)) where
-  weak_inner : Weak (p >>= (λ inner. expect (sign.Mark 41 0) >> pure inner)) Anything
-  weak_inner = both p (λ inner. expect (sign.Mark 41 0) >> pure inner) Stop Anything weak weak_close closed [] fill_close before
+module _ (p : Parser Expr) (Follow : Input → Type 0) (weak : Weak p Follow) (fills : Fills p Follow one []) (before : (z : Input) → Follow (closed ∷ z)) where
+  weak_inner : Weak (p >>= (λ inner. expect (sign.Mark mark.close_paren mark.none) >> pure inner)) Anything
+  weak_inner = both p (λ inner. expect (sign.Mark mark.close_paren mark.none) >> pure inner) Follow Anything weak weak_close closed [] fill_close before
 
-  fill_inner : Fills (p >>= (λ inner. expect (sign.Mark 41 0) >> pure inner)) Anything one (closed ∷ [])
-  fill_inner = fill_both p (λ inner. expect (sign.Mark 41 0) >> pure inner) Stop Anything weak weak_close closed [] fill_close before one [] fills
+  fill_inner : Fills (p >>= (λ inner. expect (sign.Mark mark.close_paren mark.none) >> pure inner)) Anything one (closed ∷ [])
+  fill_inner = fill_both p (λ inner. expect (sign.Mark mark.close_paren mark.none) >> pure inner) Follow Anything weak weak_close closed [] fill_close before one [] fills
 
   pub weak_in_parens : Weak (in_parens p) Anything
   unfolding in_parens
-  weak_in_parens = both (expect (sign.Mark 40 0)) (λ _. p >>= (λ inner. expect (sign.Mark 41 0) >> pure inner)) Anything Anything (weak_expect (sign.Mark 40 0) Anything) (λ _. weak_inner) one (closed ∷ []) (λ _. fill_inner) (λ z. tt)
+  weak_in_parens = both (expect (sign.Mark mark.open_paren mark.none)) (λ _. p >>= (λ inner. expect (sign.Mark mark.close_paren mark.none) >> pure inner)) Anything Anything (weak_expect (sign.Mark mark.open_paren mark.none) Anything) (λ _. weak_inner) one (closed ∷ []) (λ _. fill_inner) (λ z. tt)
 
 -- how a rule goes on at an open parenthesis
 abbrev AtOpen : Parser Expr → Type 0
-AtOpen p = (c : Word) → is_at (sign.Mark 40 0) c ≡ true → Kind (λ _. p) Anything c
+AtOpen p = (c : Word) → is_at (sign.Mark mark.open_paren mark.none) c ≡ true → Kind (λ _. p) Anything c
 
 weak_atom : (p : Parser Expr) → IsLocal p → AtOpen p → Weak (atom_over p) Anything
 unfolding atom_over
 weak_atom p local kind =
-    weak_if (sign.Mark 40 0) p other Anything local other_local nothing kind
+    weak_if (sign.Mark mark.open_paren mark.none) p other Anything local other_local nothing kind
     (λ c at. kind_cond (is_column (Some c)) col lit Anything c (λ _. inr (inr (col, weak_col, λ j. refl))) (λ _. inr (inr (lit, weak_lit, λ j. refl))))
   where
     col : Parser Expr

@@ -10,6 +10,7 @@ use Rattle.sk_rows.specs.declared.statement.Begun.TheVariants as begun
 use Rattle.sk_rows.specs.declared.statement.SetItem.{SetItem}
 use Rattle.sk_rows.specs.declared.statement.Statement.{Statement}
 use Rattle.sk_rows.specs.declared.statement.Statement.TheVariants as st
+use Rattle.sk_lex.specs.Marks as mark
 use Rattle.sk_parse.specs.declared.cursor.Sign.TheVariants as sign
 use Rattle.sk_parse.specs.Input.{Input, Outcome, Parser, and_then, pure, refuse, ◌<$>◌, ◌>>=◌, ◌>>◌, after, expect, first, first_key, is_at, listed, next, same_key, sees}
 use Rattle.sk_parse.specs.Terms.{literal, name}
@@ -31,15 +32,15 @@ err_of d (Err k) = k
 abbrev IsEnd : Input → Type 0
 IsEnd z = z ≡ []
 
-rest_tail : {A : Type 0} (p : Parser A) (Stop : Input → Type 0) → Tail p Stop → Rest p Stop
-rest_tail p Stop tail = record {
+rest_tail : {A : Type 0} (p : Parser A) (Follow : Input → Type 0) → Tail p Follow → Rest p Follow
+rest_tail p Follow tail = record {
   leaves = tail.leaves;
   stable = tail.stable;
   completes = λ i n is. let c = tail.completes i n is in (c.0 ∷ c.1, c.2, c.3, c.4, c.5, c.6, c.7);
 }
 
-tail_mapped : {A B : Type 0} (f : A → B) (p : Parser A) (Stop : Input → Type 0) → Tail p Stop → Tail (f <$> p) Stop
-tail_mapped {A} {B} f p Stop tail = record {
+tail_mapped : {A B : Type 0} (f : A → B) (p : Parser A) (Follow : Input → Type 0) → Tail p Follow → Tail (f <$> p) Follow
+tail_mapped {A} {B} f p Follow tail = record {
   local = bind_local p (λ x. pure (f x)) tail.local (λ x. is_pure_local (f x));
   leaves = λ i r b is.
       let s = bind_ok (p i) (λ x. pure (f x)) b r is in
@@ -54,7 +55,7 @@ tail_mapped {A} {B} f p Stop tail = record {
   completes = λ i n is. by i n (p i) refl is;
 }
   where
-    by : (i : Input) (n : ℕ) (o : Outcome A) → p i ≡ o → and_then o (λ x. pure (f x)) ≡ Err n → Completion (f <$> p) Stop i n
+    by : (i : Input) (n : ℕ) (o : Outcome A) → p i ≡ o → and_then o (λ x. pure (f x)) ≡ Err n → Completion (f <$> p) Follow i n
     by i n (Ok q) at failed = absurd cc
     by i n (Err m) at failed =
         let c = tail.completes i m at in
@@ -134,12 +135,12 @@ weak_names = mapped Some (listed name) ShownStop (weak_listed name Anything (wea
 weak_shown : Weak select_list ShownStop
 unfolding select_list names
 weak_shown =
-    let s = sign.Mark 42 0 in
+    let s = sign.Mark mark.star mark.none in
     subst (λ r. Weak r ShownStop) (is_eaten s (pure None) names)
     (weak_if s (λ i. pure None (next i)) names ShownStop (next_local (pure None) (is_pure_local None)) weak_names.local (weak_nothing names ShownStop weak_names)
     (λ c at. inr (inl (pure None, rest_pure None ShownStop, λ j. refl))) (λ c at. inr (inr (names, weak_names, λ j. refl))))
 
-fill_shown : Fills select_list ShownStop (word.Mark 42 0) []
+fill_shown : Fills select_list ShownStop (word.Mark mark.star mark.none) []
 unfolding select_list after sees
 fill_shown = (None, λ z stop. refl)
 
@@ -153,30 +154,30 @@ weak_select =
     both select_list (λ columns. expect (sign.Key key.From) >> (name >>= (λ t. condition >>= (λ c. pure (st.Select t columns c))))) ShownStop IsEnd weak_shown (λ columns. weak_from (λ t c. st.Select t columns c))
     (word.Key key.From) (some_name ∷ []) (λ columns. fill_from (λ t c. st.Select t columns c)) from_stops
 
-fill_select : Fills select IsEnd (word.Mark 42 0) (word.Key key.From ∷ some_name ∷ [])
+fill_select : Fills select IsEnd (word.Mark mark.star mark.none) (word.Key key.From ∷ some_name ∷ [])
 unfolding select
 fill_select =
     fill_both select_list (λ columns. expect (sign.Key key.From) >> (name >>= (λ t. condition >>= (λ c. pure (st.Select t columns c))))) ShownStop IsEnd weak_shown (λ columns. weak_from (λ t c. st.Select t columns c))
-    (word.Key key.From) (some_name ∷ []) (λ columns. fill_from (λ t c. st.Select t columns c)) from_stops (word.Mark 42 0) [] fill_shown
+    (word.Key key.From) (some_name ∷ []) (λ columns. fill_from (λ t c. st.Select t columns c)) from_stops (word.Mark mark.star mark.none) [] fill_shown
 
 module _ (column : List ℕ) where
   set_to : Expr → SetItem
   set_to value = record { column = column; value = value }
 
-  weak_value : Weak (expect (sign.Mark 61 0) >> (set_to <$> expr)) Ends
-  weak_value = both (expect (sign.Mark 61 0)) (λ _. set_to <$> expr) Anything Ends (weak_expect (sign.Mark 61 0) Anything) (λ _. mapped set_to expr Ends weak_expr) one [] (λ _. fill_mapped set_to expr Ends weak_expr one [] fill_expr) (λ z. tt)
+  weak_value : Weak (expect (sign.Mark mark.equals mark.none) >> (set_to <$> expr)) Ends
+  weak_value = both (expect (sign.Mark mark.equals mark.none)) (λ _. set_to <$> expr) Anything Ends (weak_expect (sign.Mark mark.equals mark.none) Anything) (λ _. mapped set_to expr Ends weak_expr) one [] (λ _. fill_mapped set_to expr Ends weak_expr one [] fill_expr) (λ z. tt)
 
-  fill_value : Fills (expect (sign.Mark 61 0) >> (set_to <$> expr)) Ends (word.Mark 61 0) (one ∷ [])
-  fill_value = fill_both (expect (sign.Mark 61 0)) (λ _. set_to <$> expr) Anything Ends (weak_expect (sign.Mark 61 0) Anything) (λ _. mapped set_to expr Ends weak_expr) one [] (λ _. fill_mapped set_to expr Ends weak_expr one [] fill_expr) (λ z. tt)
-      (word.Mark 61 0) [] (fill_expect (sign.Mark 61 0) Anything (word.Mark 61 0) refl)
+  fill_value : Fills (expect (sign.Mark mark.equals mark.none) >> (set_to <$> expr)) Ends (word.Mark mark.equals mark.none) (one ∷ [])
+  fill_value = fill_both (expect (sign.Mark mark.equals mark.none)) (λ _. set_to <$> expr) Anything Ends (weak_expect (sign.Mark mark.equals mark.none) Anything) (λ _. mapped set_to expr Ends weak_expr) one [] (λ _. fill_mapped set_to expr Ends weak_expr one [] fill_expr) (λ z. tt)
+      (word.Mark mark.equals mark.none) [] (fill_expect (sign.Mark mark.equals mark.none) Anything (word.Mark mark.equals mark.none) refl)
 
 weak_set : Weak set_item Ends
 unfolding set_item set_to
-weak_set = both name (λ column. expect (sign.Mark 61 0) >> (set_to column <$> expr)) Anything Ends (weak_name Anything) weak_value (word.Mark 61 0) (one ∷ []) fill_value (λ z. tt)
+weak_set = both name (λ column. expect (sign.Mark mark.equals mark.none) >> (set_to column <$> expr)) Anything Ends (weak_name Anything) weak_value (word.Mark mark.equals mark.none) (one ∷ []) fill_value (λ z. tt)
 
-fill_set : Fills set_item Ends some_name (word.Mark 61 0 ∷ one ∷ [])
+fill_set : Fills set_item Ends some_name (word.Mark mark.equals mark.none ∷ one ∷ [])
 unfolding set_item set_to
-fill_set = fill_both name (λ column. expect (sign.Mark 61 0) >> (set_to column <$> expr)) Anything Ends (weak_name Anything) weak_value (word.Mark 61 0) (one ∷ []) fill_value (λ z. tt) some_name [] (fill_name Anything)
+fill_set = fill_both name (λ column. expect (sign.Mark mark.equals mark.none) >> (set_to column <$> expr)) Anything Ends (weak_name Anything) weak_value (word.Mark mark.equals mark.none) (one ∷ []) fill_value (λ z. tt) some_name [] (fill_name Anything)
 
 abbrev SetStop : Input → Type 0
 SetStop z = Ends z × NoComma z
@@ -192,98 +193,98 @@ module _ (t : List ℕ) where
   weak_sets : Weak sets IsEnd
   unfolding sets
   weak_sets =
-      tailed (listed set_item) (λ sets. condition >>= (λ c. pure (st.Update t sets c))) SetStop IsEnd (weak_listed set_item Ends weak_set some_name (word.Mark 61 0 ∷ one ∷ []) fill_set)
+      tailed (listed set_item) (λ sets. condition >>= (λ c. pure (st.Update t sets c))) SetStop IsEnd (weak_listed set_item Ends weak_set some_name (word.Mark mark.equals mark.none ∷ one ∷ []) fill_set)
       (λ sets. tail_mapped (st.Update t sets) condition IsEnd tail_condition) end_stops
 
-  fill_sets : Fills sets IsEnd some_name (word.Mark 61 0 ∷ one ∷ [])
+  fill_sets : Fills sets IsEnd some_name (word.Mark mark.equals mark.none ∷ one ∷ [])
   unfolding sets
   fill_sets =
-      fill_tailed (listed set_item) (λ sets. condition >>= (λ c. pure (st.Update t sets c))) SetStop IsEnd (weak_listed set_item Ends weak_set some_name (word.Mark 61 0 ∷ one ∷ []) fill_set)
-      (λ sets. tail_mapped (st.Update t sets) condition IsEnd tail_condition) end_stops some_name (word.Mark 61 0 ∷ one ∷ []) (fill_listed set_item Ends weak_set some_name (word.Mark 61 0 ∷ one ∷ []) fill_set)
+      fill_tailed (listed set_item) (λ sets. condition >>= (λ c. pure (st.Update t sets c))) SetStop IsEnd (weak_listed set_item Ends weak_set some_name (word.Mark mark.equals mark.none ∷ one ∷ []) fill_set)
+      (λ sets. tail_mapped (st.Update t sets) condition IsEnd tail_condition) end_stops some_name (word.Mark mark.equals mark.none ∷ one ∷ []) (fill_listed set_item Ends weak_set some_name (word.Mark mark.equals mark.none ∷ one ∷ []) fill_set)
 
   weak_sets_behind : Weak (expect (sign.Key key.Set) >> sets) IsEnd
-  weak_sets_behind = both (expect (sign.Key key.Set)) (λ _. sets) Anything IsEnd (weak_expect (sign.Key key.Set) Anything) (λ _. weak_sets) some_name (word.Mark 61 0 ∷ one ∷ []) (λ _. fill_sets) (λ z. tt)
+  weak_sets_behind = both (expect (sign.Key key.Set)) (λ _. sets) Anything IsEnd (weak_expect (sign.Key key.Set) Anything) (λ _. weak_sets) some_name (word.Mark mark.equals mark.none ∷ one ∷ []) (λ _. fill_sets) (λ z. tt)
 
-  fill_sets_behind : Fills (expect (sign.Key key.Set) >> sets) IsEnd (word.Key key.Set) (some_name ∷ word.Mark 61 0 ∷ one ∷ [])
+  fill_sets_behind : Fills (expect (sign.Key key.Set) >> sets) IsEnd (word.Key key.Set) (some_name ∷ word.Mark mark.equals mark.none ∷ one ∷ [])
   unfolding same_key
-  fill_sets_behind = fill_both (expect (sign.Key key.Set)) (λ _. sets) Anything IsEnd (weak_expect (sign.Key key.Set) Anything) (λ _. weak_sets) some_name (word.Mark 61 0 ∷ one ∷ []) (λ _. fill_sets) (λ z. tt)
+  fill_sets_behind = fill_both (expect (sign.Key key.Set)) (λ _. sets) Anything IsEnd (weak_expect (sign.Key key.Set) Anything) (λ _. weak_sets) some_name (word.Mark mark.equals mark.none ∷ one ∷ []) (λ _. fill_sets) (λ z. tt)
       (word.Key key.Set) [] (fill_expect (sign.Key key.Set) Anything (word.Key key.Set) refl)
 
 weak_update : Weak update IsEnd
 unfolding update sets
-weak_update = both name (λ t. expect (sign.Key key.Set) >> sets t) Anything IsEnd (weak_name Anything) weak_sets_behind (word.Key key.Set) (some_name ∷ word.Mark 61 0 ∷ one ∷ []) fill_sets_behind (λ z. tt)
+weak_update = both name (λ t. expect (sign.Key key.Set) >> sets t) Anything IsEnd (weak_name Anything) weak_sets_behind (word.Key key.Set) (some_name ∷ word.Mark mark.equals mark.none ∷ one ∷ []) fill_sets_behind (λ z. tt)
 
-fill_update : Fills update IsEnd some_name (word.Key key.Set ∷ some_name ∷ word.Mark 61 0 ∷ one ∷ [])
+fill_update : Fills update IsEnd some_name (word.Key key.Set ∷ some_name ∷ word.Mark mark.equals mark.none ∷ one ∷ [])
 unfolding update sets
-fill_update = fill_both name (λ t. expect (sign.Key key.Set) >> sets t) Anything IsEnd (weak_name Anything) weak_sets_behind (word.Key key.Set) (some_name ∷ word.Mark 61 0 ∷ one ∷ []) fill_sets_behind (λ z. tt) some_name [] (fill_name Anything)
+fill_update = fill_both name (λ t. expect (sign.Key key.Set) >> sets t) Anything IsEnd (weak_name Anything) weak_sets_behind (word.Key key.Set) (some_name ∷ word.Mark mark.equals mark.none ∷ one ∷ []) fill_sets_behind (λ z. tt) some_name [] (fill_name Anything)
 
 -- INSERT, from its end to its start
 abbrev ListStop : Input → Type 0
 ListStop z = Anything z × NoComma z
 
-closed_stops : (z : Input) → ListStop (word.Mark 41 0 ∷ z)
+closed_stops : (z : Input) → ListStop (word.Mark mark.close_paren mark.none ∷ z)
 unfolding sees
 closed_stops z = (tt, refl)
 
 module _ (t : List ℕ) where
   insert_end : List Value → Parser Statement
-  insert_end vs = expect (sign.Mark 41 0) >> pure (st.Insert t vs)
+  insert_end vs = expect (sign.Mark mark.close_paren mark.none) >> pure (st.Insert t vs)
 
   insert_list : Parser Statement
   insert_list = listed literal >>= insert_end
 
   insert_open : Parser Statement
-  insert_open = expect (sign.Mark 40 0) >> insert_list
+  insert_open = expect (sign.Mark mark.open_paren mark.none) >> insert_list
 
   insert_values : Parser Statement
   insert_values = expect (sign.Key key.Values) >> insert_open
 
   weak_end : (vs : List Value) → Weak (insert_end vs) IsEnd
   unfolding insert_end
-  weak_end vs = tailed (expect (sign.Mark 41 0)) (λ _. pure (st.Insert t vs)) Anything IsEnd (weak_expect (sign.Mark 41 0) Anything) (λ _. tail_end (st.Insert t vs) IsEnd) (λ z stop. tt)
+  weak_end vs = tailed (expect (sign.Mark mark.close_paren mark.none)) (λ _. pure (st.Insert t vs)) Anything IsEnd (weak_expect (sign.Mark mark.close_paren mark.none) Anything) (λ _. tail_end (st.Insert t vs) IsEnd) (λ z stop. tt)
 
-  fill_end : (vs : List Value) → Fills (insert_end vs) IsEnd (word.Mark 41 0) []
+  fill_end : (vs : List Value) → Fills (insert_end vs) IsEnd (word.Mark mark.close_paren mark.none) []
   unfolding insert_end
-  fill_end vs = fill_tailed (expect (sign.Mark 41 0)) (λ _. pure (st.Insert t vs)) Anything IsEnd (weak_expect (sign.Mark 41 0) Anything) (λ _. tail_end (st.Insert t vs) IsEnd) (λ z stop. tt) (word.Mark 41 0) [] (fill_expect (sign.Mark 41 0) Anything (word.Mark 41 0) refl)
+  fill_end vs = fill_tailed (expect (sign.Mark mark.close_paren mark.none)) (λ _. pure (st.Insert t vs)) Anything IsEnd (weak_expect (sign.Mark mark.close_paren mark.none) Anything) (λ _. tail_end (st.Insert t vs) IsEnd) (λ z stop. tt) (word.Mark mark.close_paren mark.none) [] (fill_expect (sign.Mark mark.close_paren mark.none) Anything (word.Mark mark.close_paren mark.none) refl)
 
   weak_list : Weak insert_list IsEnd
   unfolding insert_list
-  weak_list = both (listed literal) insert_end ListStop IsEnd (weak_listed literal Anything (weak_literal Anything) one [] (fill_literal Anything)) weak_end (word.Mark 41 0) [] fill_end closed_stops
+  weak_list = both (listed literal) insert_end ListStop IsEnd (weak_listed literal Anything (weak_literal Anything) one [] (fill_literal Anything)) weak_end (word.Mark mark.close_paren mark.none) [] fill_end closed_stops
 
-  fill_list : Fills insert_list IsEnd one (word.Mark 41 0 ∷ [])
+  fill_list : Fills insert_list IsEnd one (word.Mark mark.close_paren mark.none ∷ [])
   unfolding insert_list
-  fill_list = fill_both (listed literal) insert_end ListStop IsEnd (weak_listed literal Anything (weak_literal Anything) one [] (fill_literal Anything)) weak_end (word.Mark 41 0) [] fill_end closed_stops one [] (fill_listed literal Anything (weak_literal Anything) one [] (fill_literal Anything))
+  fill_list = fill_both (listed literal) insert_end ListStop IsEnd (weak_listed literal Anything (weak_literal Anything) one [] (fill_literal Anything)) weak_end (word.Mark mark.close_paren mark.none) [] fill_end closed_stops one [] (fill_listed literal Anything (weak_literal Anything) one [] (fill_literal Anything))
 
   weak_open : Weak insert_open IsEnd
   unfolding insert_open
-  weak_open = both (expect (sign.Mark 40 0)) (λ _. insert_list) Anything IsEnd (weak_expect (sign.Mark 40 0) Anything) (λ _. weak_list) one (word.Mark 41 0 ∷ []) (λ _. fill_list) (λ z. tt)
+  weak_open = both (expect (sign.Mark mark.open_paren mark.none)) (λ _. insert_list) Anything IsEnd (weak_expect (sign.Mark mark.open_paren mark.none) Anything) (λ _. weak_list) one (word.Mark mark.close_paren mark.none ∷ []) (λ _. fill_list) (λ z. tt)
 
-  fill_open : Fills insert_open IsEnd (word.Mark 40 0) (one ∷ word.Mark 41 0 ∷ [])
+  fill_open : Fills insert_open IsEnd (word.Mark mark.open_paren mark.none) (one ∷ word.Mark mark.close_paren mark.none ∷ [])
   unfolding insert_open
-  fill_open = fill_both (expect (sign.Mark 40 0)) (λ _. insert_list) Anything IsEnd (weak_expect (sign.Mark 40 0) Anything) (λ _. weak_list) one (word.Mark 41 0 ∷ []) (λ _. fill_list) (λ z. tt) (word.Mark 40 0) [] (fill_expect (sign.Mark 40 0) Anything (word.Mark 40 0) refl)
+  fill_open = fill_both (expect (sign.Mark mark.open_paren mark.none)) (λ _. insert_list) Anything IsEnd (weak_expect (sign.Mark mark.open_paren mark.none) Anything) (λ _. weak_list) one (word.Mark mark.close_paren mark.none ∷ []) (λ _. fill_list) (λ z. tt) (word.Mark mark.open_paren mark.none) [] (fill_expect (sign.Mark mark.open_paren mark.none) Anything (word.Mark mark.open_paren mark.none) refl)
 
   weak_values : Weak insert_values IsEnd
   unfolding insert_values
-  weak_values = both (expect (sign.Key key.Values)) (λ _. insert_open) Anything IsEnd (weak_expect (sign.Key key.Values) Anything) (λ _. weak_open) (word.Mark 40 0) (one ∷ word.Mark 41 0 ∷ []) (λ _. fill_open) (λ z. tt)
+  weak_values = both (expect (sign.Key key.Values)) (λ _. insert_open) Anything IsEnd (weak_expect (sign.Key key.Values) Anything) (λ _. weak_open) (word.Mark mark.open_paren mark.none) (one ∷ word.Mark mark.close_paren mark.none ∷ []) (λ _. fill_open) (λ z. tt)
 
-  fill_values : Fills insert_values IsEnd (word.Key key.Values) (word.Mark 40 0 ∷ one ∷ word.Mark 41 0 ∷ [])
+  fill_values : Fills insert_values IsEnd (word.Key key.Values) (word.Mark mark.open_paren mark.none ∷ one ∷ word.Mark mark.close_paren mark.none ∷ [])
   unfolding insert_values same_key
-  fill_values = fill_both (expect (sign.Key key.Values)) (λ _. insert_open) Anything IsEnd (weak_expect (sign.Key key.Values) Anything) (λ _. weak_open) (word.Mark 40 0) (one ∷ word.Mark 41 0 ∷ []) (λ _. fill_open) (λ z. tt)
+  fill_values = fill_both (expect (sign.Key key.Values)) (λ _. insert_open) Anything IsEnd (weak_expect (sign.Key key.Values) Anything) (λ _. weak_open) (word.Mark mark.open_paren mark.none) (one ∷ word.Mark mark.close_paren mark.none ∷ []) (λ _. fill_open) (λ z. tt)
       (word.Key key.Values) [] (fill_expect (sign.Key key.Values) Anything (word.Key key.Values) refl)
 
 insert_into : Parser Statement
 insert_into = name >>= insert_values
 
 abbrev into_fill : List Word
-into_fill = word.Key key.Values ∷ word.Mark 40 0 ∷ one ∷ word.Mark 41 0 ∷ []
+into_fill = word.Key key.Values ∷ word.Mark mark.open_paren mark.none ∷ one ∷ word.Mark mark.close_paren mark.none ∷ []
 
 weak_into : Weak insert_into IsEnd
 unfolding insert_into
-weak_into = both name insert_values Anything IsEnd (weak_name Anything) weak_values (word.Key key.Values) (word.Mark 40 0 ∷ one ∷ word.Mark 41 0 ∷ []) fill_values (λ z. tt)
+weak_into = both name insert_values Anything IsEnd (weak_name Anything) weak_values (word.Key key.Values) (word.Mark mark.open_paren mark.none ∷ one ∷ word.Mark mark.close_paren mark.none ∷ []) fill_values (λ z. tt)
 
 fill_into : Fills insert_into IsEnd some_name into_fill
 unfolding insert_into
-fill_into = fill_both name insert_values Anything IsEnd (weak_name Anything) weak_values (word.Key key.Values) (word.Mark 40 0 ∷ one ∷ word.Mark 41 0 ∷ []) fill_values (λ z. tt) some_name [] (fill_name Anything)
+fill_into = fill_both name insert_values Anything IsEnd (weak_name Anything) weak_values (word.Key key.Values) (word.Mark mark.open_paren mark.none ∷ one ∷ word.Mark mark.close_paren mark.none ∷ []) fill_values (λ z. tt) some_name [] (fill_name Anything)
 
 weak_insert : Weak insert IsEnd
 unfolding insert insert_into insert_values insert_open insert_list insert_end
@@ -330,8 +331,8 @@ said_kind (word.Key key.Begin) = inr (inl (begin, rest_tail begin IsEnd tail_beg
 said_kind (word.Key key.Commit) = inr (inl (pure st.Commit, rest_pure st.Commit IsEnd, λ j. refl))
 said_kind (word.Key key.Rollback) = inr (inl (pure st.Rollback, rest_pure st.Rollback IsEnd, λ j. refl))
 said_kind (word.Key key.Insert) = inr (inl (insert, rest_of insert IsEnd (word.Key key.Into) (some_name ∷ into_fill) weak_insert fill_insert, λ j. refl))
-said_kind (word.Key key.Select) = inr (inl (select, rest_of select IsEnd (word.Mark 42 0) (word.Key key.From ∷ some_name ∷ []) weak_select fill_select, λ j. refl))
-said_kind (word.Key key.Update) = inr (inl (update, rest_of update IsEnd some_name (word.Key key.Set ∷ some_name ∷ word.Mark 61 0 ∷ one ∷ []) weak_update fill_update, λ j. refl))
+said_kind (word.Key key.Select) = inr (inl (select, rest_of select IsEnd (word.Mark mark.star mark.none) (word.Key key.From ∷ some_name ∷ []) weak_select fill_select, λ j. refl))
+said_kind (word.Key key.Update) = inr (inl (update, rest_of update IsEnd some_name (word.Key key.Set ∷ some_name ∷ word.Mark mark.equals mark.none ∷ one ∷ []) weak_update fill_update, λ j. refl))
 said_kind (word.Key key.Delete) = inr (inl (delete, rest_of delete IsEnd (word.Key key.From) (some_name ∷ []) weak_delete fill_delete, λ j. refl))
 said_kind _ = inl (λ j. refl)
 

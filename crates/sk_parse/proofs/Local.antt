@@ -12,6 +12,7 @@ use Rattle.sk_rows.specs.declared.statement.Begun.TheVariants as begun
 use Rattle.sk_rows.specs.declared.statement.SetItem.{SetItem}
 use Rattle.sk_rows.specs.declared.statement.Statement.{Statement}
 use Rattle.sk_rows.specs.declared.statement.Statement.TheVariants as st
+use Rattle.sk_lex.specs.Marks as mark
 use Rattle.sk_parse.specs.declared.cursor.Sign.{Sign}
 use Rattle.sk_parse.specs.declared.cursor.Sign.TheVariants as sign
 use Rattle.sk_parse.specs.declared.terms.Level.TheVariants as level
@@ -181,7 +182,7 @@ module _ (w : Word) (vs zs : List Word) where
 
   pub local_literal : Local literal
   unfolding literal plain negative
-  local_literal = local_bind (eat (sign.Mark 45 0)) (λ b. cond b negative plain) (local_eat (sign.Mark 45 0)) (λ b. local_choice b negative plain (local_taken negative_of) (local_taken value_of))
+  local_literal = local_bind (eat (sign.Mark mark.minus mark.none)) (λ b. cond b negative plain) (local_eat (sign.Mark mark.minus mark.none)) (λ b. local_choice b negative plain (local_taken negative_of) (local_taken value_of))
 
   -- ---- turns
 
@@ -222,7 +223,7 @@ module _ (w : Word) (vs zs : List Word) where
   list_fuel item short (suc n) zero found [] a b = refl
   list_fuel item short (suc n) zero found (x ∷ i) a b = absurd (omega arith)
   list_fuel item short (suc n) (suc m) found [] a b = refl
-  list_fuel {A} item short (suc n) (suc m) found (x ∷ i) a b = by (is_at (sign.Mark 44 0) x) (list_fuel item short n m)
+  list_fuel {A} item short (suc n) (suc m) found (x ∷ i) a b = by (is_at (sign.Mark mark.comma mark.none) x) (list_fuel item short n m)
     where
       on : ((longer : List A) (j : Input) → length j ≤ n → length j ≤ m → listed_from item n longer j ≡ listed_from item m longer j) → (out : Outcome A) → item i ≡ out
           → and_then out (λ y. listed_from item n (found ++ y ∷ [])) ≡ and_then out (λ y. listed_from item m (found ++ y ∷ []))
@@ -238,7 +239,7 @@ module _ (w : Word) (vs zs : List Word) where
   unfolding listed_from
   local_listed_from item here zero found = local_pure found
   local_listed_from item here (suc n) found =
-      local_bind (eat (sign.Mark 44 0)) (λ b. cond b (item >>= (λ y. listed_from item n (found ++ y ∷ []))) (pure found)) (local_eat (sign.Mark 44 0))
+      local_bind (eat (sign.Mark mark.comma mark.none)) (λ b. cond b (item >>= (λ y. listed_from item n (found ++ y ∷ []))) (pure found)) (local_eat (sign.Mark mark.comma mark.none))
       (λ b. local_choice b (item >>= (λ y. listed_from item n (found ++ y ∷ []))) (pure found) (local_bind item (λ y. listed_from item n (found ++ y ∷ [])) here (λ y. local_listed_from item here n (found ++ y ∷ []))) (local_pure found))
 
   pub local_rest : {A : Type 0} (item : Parser A) → Local item → (x : A) → Local (λ i. listed_from item (length i) (x ∷ []) i)
@@ -260,13 +261,13 @@ module _ (w : Word) (vs zs : List Word) where
   pub local_in_parens : (p : Parser Expr) → Local p → Local (in_parens p)
   unfolding in_parens
   local_in_parens p here =
-      local_then (expect (sign.Mark 40 0)) (p >>= (λ inner. expect (sign.Mark 41 0) >> pure inner)) (local_expect (sign.Mark 40 0))
-      (local_bind p (λ inner. expect (sign.Mark 41 0) >> pure inner) here (λ inner. local_then (expect (sign.Mark 41 0)) (pure inner) (local_expect (sign.Mark 41 0)) (local_pure inner)))
+      local_then (expect (sign.Mark mark.open_paren mark.none)) (p >>= (λ inner. expect (sign.Mark mark.close_paren mark.none) >> pure inner)) (local_expect (sign.Mark mark.open_paren mark.none))
+      (local_bind p (λ inner. expect (sign.Mark mark.close_paren mark.none) >> pure inner) here (λ inner. local_then (expect (sign.Mark mark.close_paren mark.none)) (pure inner) (local_expect (sign.Mark mark.close_paren mark.none)) (local_pure inner)))
 
   pub local_atom : (p : Parser Expr) → Local p → Local (atom_over p)
   unfolding atom_over
   local_atom p here =
-      local_if (sign.Mark 40 0) p (λ i. cond (is_column (first i)) ((e.Col <$> name) i) ((e.Lit <$> literal) i)) here
+      local_if (sign.Mark mark.open_paren mark.none) p (λ i. cond (is_column (first i)) ((e.Col <$> name) i) ((e.Lit <$> literal) i)) here
       (local_first (λ o i. cond (is_column o) ((e.Col <$> name) i) ((e.Lit <$> literal) i)) (λ o. local_cond (is_column o) (e.Col <$> name) (e.Lit <$> literal) (local_map e.Col name local_name) (local_map e.Lit literal local_literal)))
 
   pub local_sum : (p : Parser Expr) → Local p → Local (sum_over p)
@@ -317,16 +318,16 @@ module _ (w : Word) (vs zs : List Word) where
   unfolding insert
   local_insert =
       local_then (expect (sign.Key key.Into)) _ (local_expect (sign.Key key.Into))
-      (local_bind name (λ t. expect (sign.Key key.Values) >> (expect (sign.Mark 40 0) >> (listed literal >>= (λ vs. expect (sign.Mark 41 0) >> pure (st.Insert t vs))))) local_name (λ t.
-      local_then (expect (sign.Key key.Values)) (expect (sign.Mark 40 0) >> (listed literal >>= (λ vs. expect (sign.Mark 41 0) >> pure (st.Insert t vs)))) (local_expect (sign.Key key.Values))
-      (local_then (expect (sign.Mark 40 0)) (listed literal >>= (λ vs. expect (sign.Mark 41 0) >> pure (st.Insert t vs))) (local_expect (sign.Mark 40 0))
-      (local_bind (listed literal) (λ vs. expect (sign.Mark 41 0) >> pure (st.Insert t vs)) (local_listed literal local_literal) (λ vs.
-      local_then (expect (sign.Mark 41 0)) (pure (st.Insert t vs)) (local_expect (sign.Mark 41 0)) (local_pure (st.Insert t vs)))))))
+      (local_bind name (λ t. expect (sign.Key key.Values) >> (expect (sign.Mark mark.open_paren mark.none) >> (listed literal >>= (λ vs. expect (sign.Mark mark.close_paren mark.none) >> pure (st.Insert t vs))))) local_name (λ t.
+      local_then (expect (sign.Key key.Values)) (expect (sign.Mark mark.open_paren mark.none) >> (listed literal >>= (λ vs. expect (sign.Mark mark.close_paren mark.none) >> pure (st.Insert t vs)))) (local_expect (sign.Key key.Values))
+      (local_then (expect (sign.Mark mark.open_paren mark.none)) (listed literal >>= (λ vs. expect (sign.Mark mark.close_paren mark.none) >> pure (st.Insert t vs))) (local_expect (sign.Mark mark.open_paren mark.none))
+      (local_bind (listed literal) (λ vs. expect (sign.Mark mark.close_paren mark.none) >> pure (st.Insert t vs)) (local_listed literal local_literal) (λ vs.
+      local_then (expect (sign.Mark mark.close_paren mark.none)) (pure (st.Insert t vs)) (local_expect (sign.Mark mark.close_paren mark.none)) (local_pure (st.Insert t vs)))))))
 
   pub local_shown : Local select_list
   unfolding select_list
   local_shown =
-      local_bind (eat (sign.Mark 42 0)) (λ b. cond b (pure None) (Some <$> listed name)) (local_eat (sign.Mark 42 0)) (λ b. local_choice b (pure None) (Some <$> listed name) (local_pure None) (local_map Some (listed name) (local_listed name local_name)))
+      local_bind (eat (sign.Mark mark.star mark.none)) (λ b. cond b (pure None) (Some <$> listed name)) (local_eat (sign.Mark mark.star mark.none)) (λ b. local_choice b (pure None) (Some <$> listed name) (local_pure None) (local_map Some (listed name) (local_listed name local_name)))
 
   pub local_from : (f : List ℕ → Option Expr → Statement) → Local (expect (sign.Key key.From) >> (name >>= (λ t. condition >>= (λ c. pure (f t c)))))
   local_from f =
@@ -341,8 +342,8 @@ module _ (w : Word) (vs zs : List Word) where
   pub local_set : Local set_item
   unfolding set_item
   local_set =
-      local_bind name (λ column. expect (sign.Mark 61 0) >> (expr >>= (λ value. pure (record { column = column; value = value })))) local_name (λ column.
-      local_then (expect (sign.Mark 61 0)) (expr >>= (λ value. pure {A = SetItem} (record { column = column; value = value }))) (local_expect (sign.Mark 61 0))
+      local_bind name (λ column. expect (sign.Mark mark.equals mark.none) >> (expr >>= (λ value. pure (record { column = column; value = value })))) local_name (λ column.
+      local_then (expect (sign.Mark mark.equals mark.none)) (expr >>= (λ value. pure {A = SetItem} (record { column = column; value = value }))) (local_expect (sign.Mark mark.equals mark.none))
       (local_bind expr (λ value. pure {A = SetItem} (record { column = column; value = value })) local_expr (λ value. local_pure _)))
 
   pub local_update : Local update

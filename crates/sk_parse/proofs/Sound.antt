@@ -12,6 +12,7 @@ use Rattle.std.proofs.lemmas.Bool.Decides.{nat_tests}
 use Rattle.sk_rows.specs.declared.expr.Op.{Op}
 use Rattle.sk_rows.specs.declared.expr.Expr.{Expr}
 use Rattle.sk_rows.specs.declared.expr.Expr.TheVariants as e
+use Rattle.sk_lex.specs.Marks as mark
 use Rattle.sk_parse.specs.declared.cursor.Sign.TheVariants as sign
 use Rattle.sk_parse.specs.Input.{Input, Outcome, Parser, and_then, pure, next, sees, after, same_key, take_some, taken}
 use Rattle.sk_parse.specs.Terms.{name_of, value_of, negative_of, negative, plain, literal}
@@ -121,15 +122,15 @@ name_ok _ a is = absurd (cc)
 
 -- ---- literals
 
-literal_by : (b : Bool) (i r : Input) (v : Value) → sees (sign.Mark 45 0) i ≡ b → Gave (cond b negative plain (cond b (next i) i)) v r
+literal_by : (b : Bool) (i r : Input) (v : Value) → sees (sign.Mark mark.minus mark.none) i ≡ b → Gave (cond b negative plain (cond b (next i) i)) v r
     → (ws : List Word) × (i ≡ ws ++ r) × IsLiteral ws v
 unfolding negative plain
 literal_by true i r v at is =
     let t = taken_ok negative_of (next i) v r is in
-    (word.Mark 45 0 ∷ t.0 ∷ [], mark_at 45 0 i at ∙ ap (λ z. word.Mark 45 0 ∷ z) t.1, IsLiteral.negative t.0 v t.2)
+    (word.Mark mark.minus mark.none ∷ t.0 ∷ [], mark_at mark.minus mark.none i at ∙ ap (λ z. word.Mark mark.minus mark.none ∷ z) t.1, IsLiteral.negative t.0 v t.2)
 literal_by false i r v at is =
     let t = taken_ok value_of i v r is in (t.0 ∷ [], t.1, IsLiteral.plain t.0 v t.2)
 
 pub sound_literal : (i r : Input) (v : Value) → Gave (literal i) v r → (ws : List Word) × (i ≡ ws ++ r) × IsLiteral ws v
 unfolding literal after
-sound_literal i r v is = literal_by (sees (sign.Mark 45 0) i) i r v refl is
+sound_literal i r v is = literal_by (sees (sign.Mark mark.minus mark.none) i) i r v refl is

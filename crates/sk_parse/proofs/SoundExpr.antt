@@ -6,6 +6,7 @@ use Rattle.sk_lex.specs.declared.token.Word.TheVariants as word
 use Rattle.sk_rows.specs.declared.expr.Op.{Op}
 use Rattle.sk_rows.specs.declared.expr.Expr.{Expr}
 use Rattle.sk_rows.specs.declared.expr.Expr.TheVariants as e
+use Rattle.sk_lex.specs.Marks as mark
 use Rattle.sk_parse.specs.declared.cursor.Sign.{Sign}
 use Rattle.sk_parse.specs.declared.cursor.Sign.TheVariants as sign
 use Rattle.sk_parse.specs.declared.terms.Level.{Level}
@@ -29,23 +30,23 @@ expect_ok s i u r is = by (sees s i) refl is
 sound_in_parens : (n : ℕ) (p : Parser Expr) → Sound p (Derives (Rule.Chain level.Or) n) → Sound (in_parens p) (Derives Rule.Atom (suc n))
 unfolding in_parens
 sound_in_parens n p sound i r x is =
-    let a = bind_ok (expect (sign.Mark 40 0) i) (λ _. p >>= (λ inner. expect (sign.Mark 41 0) >> pure inner)) x r is in
-    let opened = expect_ok (sign.Mark 40 0) i a.0 a.1 a.2 in
-    let b = bind_ok (p a.1) (λ inner. expect (sign.Mark 41 0) >> pure inner) x r a.3 in
+    let a = bind_ok (expect (sign.Mark mark.open_paren mark.none) i) (λ _. p >>= (λ inner. expect (sign.Mark mark.close_paren mark.none) >> pure inner)) x r is in
+    let opened = expect_ok (sign.Mark mark.open_paren mark.none) i a.0 a.1 a.2 in
+    let b = bind_ok (p a.1) (λ inner. expect (sign.Mark mark.close_paren mark.none) >> pure inner) x r a.3 in
     let s = sound a.1 b.1 b.0 b.2 in
-    let c = bind_ok (expect (sign.Mark 41 0) b.1) (λ _. pure b.0) x r b.3 in
-    let close = expect_ok (sign.Mark 41 0) b.1 c.0 c.1 c.2 in
+    let c = bind_ok (expect (sign.Mark mark.close_paren mark.none) b.1) (λ _. pure b.0) x r b.3 in
+    let close = expect_ok (sign.Mark mark.close_paren mark.none) b.1 c.0 c.1 c.2 in
     let end = same b.0 x c.1 r c.3 in
-    let front = mark_at 40 0 i opened.0 ∙ ap (λ z. word.Mark 40 0 ∷ z) (opened.1 ∙ s.1) in
-    let back = mark_at 41 0 b.1 close.0 ∙ ap (λ z. word.Mark 41 0 ∷ z) (close.1 ∙ end.1) in (
-      word.Mark 40 0 ∷ s.0 ++ word.Mark 41 0 ∷ [],
-      front ∙ ap (λ z. word.Mark 40 0 ∷ s.0 ++ z) back ∙ sym (append_assoc (word.Mark 40 0 ∷ s.0) (word.Mark 41 0 ∷ []) r),
+    let front = mark_at mark.open_paren mark.none i opened.0 ∙ ap (λ z. word.Mark mark.open_paren mark.none ∷ z) (opened.1 ∙ s.1) in
+    let back = mark_at mark.close_paren mark.none b.1 close.0 ∙ ap (λ z. word.Mark mark.close_paren mark.none ∷ z) (close.1 ∙ end.1) in (
+      word.Mark mark.open_paren mark.none ∷ s.0 ++ word.Mark mark.close_paren mark.none ∷ [],
+      front ∙ ap (λ z. word.Mark mark.open_paren mark.none ∷ s.0 ++ z) back ∙ sym (append_assoc (word.Mark mark.open_paren mark.none ∷ s.0) (word.Mark mark.close_paren mark.none ∷ []) r),
       subst (Derives Rule.Atom (suc n) _) end.0 (Derives.atom_parens n s.0 b.0 s.2),
     )
 
 sound_atom : (n : ℕ) (p : Parser Expr) → Sound p (Derives Rule.Atom n) → Sound (atom_over p) (Derives Rule.Atom n)
 unfolding atom_over name
-sound_atom n p sound i r x is = go (either (sees (sign.Mark 40 0) i) _ _ x r is)
+sound_atom n p sound i r x is = go (either (sees (sign.Mark mark.open_paren mark.none) i) _ _ x r is)
   where
     col : Gave ((e.Col <$> name) i) x r → Splits (Derives Rule.Atom n) i x r
     col is =

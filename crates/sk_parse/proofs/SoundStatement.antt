@@ -12,6 +12,7 @@ use Rattle.sk_rows.specs.declared.statement.Begun.TheVariants as begun
 use Rattle.sk_rows.specs.declared.statement.SetItem.{SetItem}
 use Rattle.sk_rows.specs.declared.statement.Statement.{Statement}
 use Rattle.sk_rows.specs.declared.statement.Statement.TheVariants as st
+use Rattle.sk_lex.specs.Marks as mark
 use Rattle.sk_parse.specs.declared.cursor.Sign.TheVariants as sign
 use Rattle.sk_parse.specs.Input.{Input, Parser, pure, refuse, ◌<$>◌, ◌>>=◌, ◌>>◌, next, sees, after, expect, listed, listed_from}
 use Rattle.sk_parse.specs.Terms.{name_of, name, literal}
@@ -52,9 +53,9 @@ reads_more : {A : Type 0} (p : Parser A) (Item : List Word → A → Type 0) →
     → (n : ℕ) (found : List A) (i : Input) (xs : List A) (r : Input) → Gave (listed_from p n found i) xs r → More Item found i xs r
 unfolding listed_from after
 reads_more p Item reads zero found i xs r is = no_more Item found i xs r is
-reads_more {A} p Item reads (suc n) found i xs r is = by (sees (sign.Mark 44 0) i) refl is (reads_more p Item reads n)
+reads_more {A} p Item reads (suc n) found i xs r is = by (sees (sign.Mark mark.comma mark.none) i) refl is (reads_more p Item reads n)
   where
-    by : (t : Bool) → sees (sign.Mark 44 0) i ≡ t
+    by : (t : Bool) → sees (sign.Mark mark.comma mark.none) i ≡ t
         → Gave (cond t (p >>= (λ x. listed_from p n (found ++ x ∷ []))) (pure found) (cond t (next i) i)) xs r
         → ((longer : List A) (j : Input) (ys : List A) (q : Input) → Gave (listed_from p n longer j) ys q → More Item longer j ys q)
         → More Item found i xs r
@@ -64,9 +65,9 @@ reads_more {A} p Item reads (suc n) found i xs r is = by (sees (sign.Mark 44 0) 
         let item = reads (next i) a.1 a.0 a.2 in
         let rest = ih (found ++ a.0 ∷ []) a.1 xs r a.3 in (
           a.0 ∷ rest.0,
-          word.Mark 44 0 ∷ item.0 ++ rest.1,
+          word.Mark mark.comma mark.none ∷ item.0 ++ rest.1,
           rest.2 ∙ append_assoc found (a.0 ∷ []) rest.0,
-          mark_at 44 0 i at ∙ ap (λ z. word.Mark 44 0 ∷ z) (item.1 ∙ ap (λ z. item.0 ++ z) rest.3 ∙ sym (append_assoc item.0 rest.1 r)),
+          mark_at mark.comma mark.none i at ∙ ap (λ z. word.Mark mark.comma mark.none ∷ z) (item.1 ∙ ap (λ z. item.0 ++ z) rest.3 ∙ sym (append_assoc item.0 rest.1 r)),
           (item.0, rest.1, refl, item.2, rest.4),
         )
 
@@ -99,27 +100,27 @@ reads_where i c is = by (sees (sign.Key key.Where) i) refl is
 reads_set : Reads set_item IsSet
 unfolding set_item
 reads_set i r item is =
-    let a = bind_ok (name i) (λ column. expect (sign.Mark 61 0) >> (expr >>= (λ value. pure (record { column = column; value = value })))) item r is in
+    let a = bind_ok (name i) (λ column. expect (sign.Mark mark.equals mark.none) >> (expr >>= (λ value. pure (record { column = column; value = value })))) item r is in
     let n = reads_name i a.1 a.0 a.2 in
-    let b = bind_ok (expect (sign.Mark 61 0) a.1) (λ _. expr >>= (λ value. pure (record { column = a.0; value = value }))) item r a.3 in
-    let eq = expect_ok (sign.Mark 61 0) a.1 b.0 b.1 b.2 in
+    let b = bind_ok (expect (sign.Mark mark.equals mark.none) a.1) (λ _. expr >>= (λ value. pure (record { column = a.0; value = value }))) item r a.3 in
+    let eq = expect_ok (sign.Mark mark.equals mark.none) a.1 b.0 b.1 b.2 in
     let c = bind_ok (expr b.1) (λ value. pure (record { column = a.0; value = value })) item r b.3 in
     let x = reads_expr b.1 c.1 c.0 c.2 in
     let made : SetItem = record { column = a.0; value = c.0 } in
     let end = same made item c.1 r c.3 in (
-      word.Name a.0 ∷ word.Mark 61 0 ∷ x.0,
-      n.1 ∙ ap (λ z. z ++ a.1) n.2.0 ∙ ap (λ z. word.Name a.0 ∷ z) (mark_at 61 0 a.1 eq.0 ∙ ap (λ z. word.Mark 61 0 ∷ z) (eq.1 ∙ x.1 ∙ ap (λ z. x.0 ++ z) end.1)),
-      subst (IsSet (word.Name a.0 ∷ word.Mark 61 0 ∷ x.0)) end.0 (x.0, refl, n.2.1, x.2),
+      word.Name a.0 ∷ word.Mark mark.equals mark.none ∷ x.0,
+      n.1 ∙ ap (λ z. z ++ a.1) n.2.0 ∙ ap (λ z. word.Name a.0 ∷ z) (mark_at mark.equals mark.none a.1 eq.0 ∙ ap (λ z. word.Mark mark.equals mark.none ∷ z) (eq.1 ∙ x.1 ∙ ap (λ z. x.0 ++ z) end.1)),
+      subst (IsSet (word.Name a.0 ∷ word.Mark mark.equals mark.none ∷ x.0)) end.0 (x.0, refl, n.2.1, x.2),
     )
 
 reads_shown : Reads select_list AreShown
 unfolding select_list after
-reads_shown i r c is = by (sees (sign.Mark 42 0) i) refl is
+reads_shown i r c is = by (sees (sign.Mark mark.star mark.none) i) refl is
   where
-    by : (t : Bool) → sees (sign.Mark 42 0) i ≡ t → Gave (cond t (pure None) (Some <$> listed name) (cond t (next i) i)) c r → (ws : List Word) × (i ≡ ws ++ r) × AreShown ws c
+    by : (t : Bool) → sees (sign.Mark mark.star mark.none) i ≡ t → Gave (cond t (pure None) (Some <$> listed name) (cond t (next i) i)) c r → (ws : List Word) × (i ≡ ws ++ r) × AreShown ws c
     by true at e =
         let end = same None c (next i) r e in
-        (word.Mark 42 0 ∷ [], mark_at 42 0 i at ∙ ap (λ z. word.Mark 42 0 ∷ z) end.1, subst (AreShown (word.Mark 42 0 ∷ [])) end.0 refl)
+        (word.Mark mark.star mark.none ∷ [], mark_at mark.star mark.none i at ∙ ap (λ z. word.Mark mark.star mark.none ∷ z) end.1, subst (AreShown (word.Mark mark.star mark.none ∷ [])) end.0 refl)
     by false at e =
         let a = bind_ok (listed name i) (λ x. pure (Some x)) c r e in
         let names = reads_listed name IsName reads_name i a.1 a.0 a.2 in
@@ -149,24 +150,24 @@ begin_sound i s is = by (sees (sign.Key key.Memory) i) refl is
 insert_sound : (i : Input) (s : Statement) → Gave (insert i) s [] → Says (word.Key key.Insert ∷ i) s
 unfolding insert
 insert_sound i s is =
-    let a = bind_ok (expect (sign.Key key.Into) i) (λ _. name >>= (λ t. expect (sign.Key key.Values) >> (expect (sign.Mark 40 0) >> (listed literal >>= (λ vs. expect (sign.Mark 41 0) >> pure (st.Insert t vs)))))) s [] is in
+    let a = bind_ok (expect (sign.Key key.Into) i) (λ _. name >>= (λ t. expect (sign.Key key.Values) >> (expect (sign.Mark mark.open_paren mark.none) >> (listed literal >>= (λ vs. expect (sign.Mark mark.close_paren mark.none) >> pure (st.Insert t vs)))))) s [] is in
     let into = expect_ok (sign.Key key.Into) i a.0 a.1 a.2 in
-    let b = bind_ok (name a.1) (λ t. expect (sign.Key key.Values) >> (expect (sign.Mark 40 0) >> (listed literal >>= (λ vs. expect (sign.Mark 41 0) >> pure (st.Insert t vs))))) s [] a.3 in
+    let b = bind_ok (name a.1) (λ t. expect (sign.Key key.Values) >> (expect (sign.Mark mark.open_paren mark.none) >> (listed literal >>= (λ vs. expect (sign.Mark mark.close_paren mark.none) >> pure (st.Insert t vs))))) s [] a.3 in
     let n = reads_name a.1 b.1 b.0 b.2 in
-    let c = bind_ok (expect (sign.Key key.Values) b.1) (λ _. expect (sign.Mark 40 0) >> (listed literal >>= (λ vs. expect (sign.Mark 41 0) >> pure (st.Insert b.0 vs)))) s [] b.3 in
+    let c = bind_ok (expect (sign.Key key.Values) b.1) (λ _. expect (sign.Mark mark.open_paren mark.none) >> (listed literal >>= (λ vs. expect (sign.Mark mark.close_paren mark.none) >> pure (st.Insert b.0 vs)))) s [] b.3 in
     let values = expect_ok (sign.Key key.Values) b.1 c.0 c.1 c.2 in
-    let d = bind_ok (expect (sign.Mark 40 0) c.1) (λ _. listed literal >>= (λ vs. expect (sign.Mark 41 0) >> pure (st.Insert b.0 vs))) s [] c.3 in
-    let opened = expect_ok (sign.Mark 40 0) c.1 d.0 d.1 d.2 in
-    let e = bind_ok (listed literal d.1) (λ vs. expect (sign.Mark 41 0) >> pure (st.Insert b.0 vs)) s [] d.3 in
+    let d = bind_ok (expect (sign.Mark mark.open_paren mark.none) c.1) (λ _. listed literal >>= (λ vs. expect (sign.Mark mark.close_paren mark.none) >> pure (st.Insert b.0 vs))) s [] c.3 in
+    let opened = expect_ok (sign.Mark mark.open_paren mark.none) c.1 d.0 d.1 d.2 in
+    let e = bind_ok (listed literal d.1) (λ vs. expect (sign.Mark mark.close_paren mark.none) >> pure (st.Insert b.0 vs)) s [] d.3 in
     let items = reads_listed literal IsLiteral reads_literal d.1 e.1 e.0 e.2 in
-    let f = bind_ok (expect (sign.Mark 41 0) e.1) (λ _. pure (st.Insert b.0 e.0)) s [] e.3 in
-    let closed = expect_ok (sign.Mark 41 0) e.1 f.0 f.1 f.2 in
+    let f = bind_ok (expect (sign.Mark mark.close_paren mark.none) e.1) (λ _. pure (st.Insert b.0 e.0)) s [] e.3 in
+    let closed = expect_ok (sign.Mark mark.close_paren mark.none) e.1 f.0 f.1 f.2 in
     let end = same (st.Insert b.0 e.0) s f.1 [] f.3 in
-    let back : e.1 ≡ word.Mark 41 0 ∷ [] = mark_at 41 0 e.1 closed.0 ∙ ap (λ z. word.Mark 41 0 ∷ z) (closed.1 ∙ end.1) in
-    let list : c.1 ≡ word.Mark 40 0 ∷ items.0 ++ word.Mark 41 0 ∷ [] = mark_at 40 0 c.1 opened.0 ∙ ap (λ z. word.Mark 40 0 ∷ z) (opened.1 ∙ items.1 ∙ ap (λ z. items.0 ++ z) back) in
-    let named : a.1 ≡ word.Name b.0 ∷ word.Key key.Values ∷ word.Mark 40 0 ∷ items.0 ++ word.Mark 41 0 ∷ [] =
+    let back : e.1 ≡ word.Mark mark.close_paren mark.none ∷ [] = mark_at mark.close_paren mark.none e.1 closed.0 ∙ ap (λ z. word.Mark mark.close_paren mark.none ∷ z) (closed.1 ∙ end.1) in
+    let list : c.1 ≡ word.Mark mark.open_paren mark.none ∷ items.0 ++ word.Mark mark.close_paren mark.none ∷ [] = mark_at mark.open_paren mark.none c.1 opened.0 ∙ ap (λ z. word.Mark mark.open_paren mark.none ∷ z) (opened.1 ∙ items.1 ∙ ap (λ z. items.0 ++ z) back) in
+    let named : a.1 ≡ word.Name b.0 ∷ word.Key key.Values ∷ word.Mark mark.open_paren mark.none ∷ items.0 ++ word.Mark mark.close_paren mark.none ∷ [] =
     n.1 ∙ ap (λ z. z ++ b.1) n.2.0 ∙ ap (λ z. word.Name b.0 ∷ z) (key_at key.Values b.1 values.0 ∙ ap (λ z. word.Key key.Values ∷ z) (values.1 ∙ list)) in
-    let words : i ≡ word.Key key.Into ∷ word.Name b.0 ∷ word.Key key.Values ∷ word.Mark 40 0 ∷ items.0 ++ word.Mark 41 0 ∷ [] =
+    let words : i ≡ word.Key key.Into ∷ word.Name b.0 ∷ word.Key key.Values ∷ word.Mark mark.open_paren mark.none ∷ items.0 ++ word.Mark mark.close_paren mark.none ∷ [] =
     key_at key.Into i into.0 ∙ ap (λ z. word.Key key.Into ∷ z) (into.1 ∙ named) in
     subst (Says (word.Key key.Insert ∷ i)) end.0 (items.0, ap (λ z. word.Key key.Insert ∷ z) words, n.2.1, items.2)
 

@@ -17,6 +17,7 @@ use Rattle.sk_rows.specs.declared.statement.Statement.{Statement}
 use Rattle.sk_rows.specs.declared.statement.Statement.TheVariants as st
 use Rattle.sk_parse.specs.Printed.{wrapped, strength, left_at, right_at, op_word, literal_words, print_step, printed, more_words, listed_words, name_words, set_words, cond_words, begun_words, shown_words, said_words}
 use Rattle.sk_lex.specs.Spelling.{digits, spaced, spelled}
+use Rattle.sk_lex.specs.Marks as mark
 use Rattle.sk_parse.specs.Spelled.{opened, closed, literal_text, front_digits, text_step, text, more_text, listed_text, name_text, set_text, cond_text, begun_text, shown_text, insert_text, select_text, update_text, delete_text, said_text}
 
 pub spelled_append : (a b : List Word) → spelled (a ++ b) ≡ spelled a ++ spelled b
@@ -25,7 +26,7 @@ spelled_append a b = flat_map-append spaced a b
 
 pub spelled_wrapped : (asked : Bool) (ws : List Word) → spelled (wrapped asked ws) ≡ opened asked ++ spelled ws ++ closed asked
 unfolding spelled
-spelled_wrapped true ws = ap (λ z. spaced (word.Mark 40 0) ++ z) (flat_map-append spaced ws (word.Mark 41 0 ∷ []))
+spelled_wrapped true ws = ap (λ z. spaced (word.Mark mark.open_paren mark.none) ++ z) (flat_map-append spaced ws (word.Mark mark.close_paren mark.none ∷ []))
 spelled_wrapped false ws = sym (append-nil (spelled ws))
 
 abbrev IsSpelled : Expr → Type 0
@@ -45,7 +46,7 @@ one w = sym (append-nil (spaced w))
 literal : (v : Value) → literal_text v ≡ spelled (literal_words v)
 unfolding spelled
 literal (value.Int (pos n)) = one (word.Number n)
-literal (value.Int (negsuc n)) = ap (λ z. spaced (word.Mark 45 0) ++ z) (one (word.Number (suc n)))
+literal (value.Int (negsuc n)) = ap (λ z. spaced (word.Mark mark.minus mark.none) ++ z) (one (word.Number (suc n)))
 literal (value.Text t) = one (word.Text t)
 literal (value.Bool true) = one (word.Key key.True)
 literal (value.Bool false) = one (word.Key key.False)
@@ -85,7 +86,7 @@ step (Expr-F.Two op a b) = layer (Expr-F.Two op a.0 b.0) (λ at.
 is_spelling : (x : Expr) (at : ℕ) → text x at ≡ spelled (printed x at)
 is_spelling = ind-Expr IsSpelled (λ x y is. subst (λ z. IsSpelled (roll-Expr z)) is (step y))
 
-pub negative_text : (n : ℤ) → n <ℤ pos 0 → literal_text (value.Int n) ≡ spaced (word.Mark 45 0) ++ spaced (word.Number (unsigned_abs n))
+pub negative_text : (n : ℤ) → n <ℤ pos 0 → literal_text (value.Int n) ≡ spaced (word.Mark mark.minus mark.none) ++ spaced (word.Number (unsigned_abs n))
 negative_text (pos n) less = absurd (grind arith)
 negative_text (negsuc n) less = refl
 
@@ -108,8 +109,8 @@ more_spelled : {A : Type 0} (f : A → List ℕ) (g : A → List Word) → ((x :
 unfolding spelled
 more_spelled f g each [] = refl
 more_spelled f g each (x ∷ xs) =
-    append_assoc (spaced (word.Mark 44 0)) (f x) (more_text f xs)
-    ∙ ap (λ z. spaced (word.Mark 44 0) ++ z) (ap (λ z. z ++ more_text f xs) (each x) ∙ ap (λ z. spelled (g x) ++ z) (more_spelled f g each xs) ∙ sym (spelled_append (g x) (more_words g xs)))
+    append_assoc (spaced (word.Mark mark.comma mark.none)) (f x) (more_text f xs)
+    ∙ ap (λ z. spaced (word.Mark mark.comma mark.none) ++ z) (ap (λ z. z ++ more_text f xs) (each x) ∙ ap (λ z. spelled (g x) ++ z) (more_spelled f g each xs) ∙ sym (spelled_append (g x) (more_words g xs)))
 
 listed_spelled : {A : Type 0} (f : A → List ℕ) (g : A → List Word) → ((x : A) → f x ≡ spelled (g x)) → (xs : List A) → listed_text f xs ≡ spelled (listed_words g xs)
 unfolding spelled
@@ -119,8 +120,8 @@ listed_spelled f g each (x ∷ xs) = ap (λ z. z ++ more_text f xs) (each x) ∙
 set_spelled : (item : SetItem) → set_text item ≡ spelled (set_words item)
 unfolding spelled
 set_spelled item =
-    append_assoc (spaced (word.Name item.column)) (spaced (word.Mark 61 0)) (text item.value 0)
-    ∙ ap (λ z. spaced (word.Name item.column) ++ (spaced (word.Mark 61 0) ++ z)) (is_spelling item.value 0)
+    append_assoc (spaced (word.Name item.column)) (spaced (word.Mark mark.equals mark.none)) (text item.value 0)
+    ∙ ap (λ z. spaced (word.Name item.column) ++ (spaced (word.Mark mark.equals mark.none) ++ z)) (is_spelling item.value 0)
 
 cond_spelled : (cond : Option Expr) → cond_text cond ≡ spelled (cond_words cond)
 unfolding spelled
@@ -133,7 +134,7 @@ begun_spelled begun.Mem = one (word.Key key.Memory)
 begun_spelled begun.Store = one (word.Key key.Storage)
 
 shown_spelled : (columns : Option (List (List ℕ))) → shown_text columns ≡ spelled (shown_words columns)
-shown_spelled None = one (word.Mark 42 0)
+shown_spelled None = one (word.Mark mark.star mark.none)
 shown_spelled (Some names) = listed_spelled name_text name_words (λ t. one (word.Name t)) names
 
 -- the pieces of a statement, regrouped
@@ -153,11 +154,11 @@ insert_spelled table values =
     let into = spaced (word.Key key.Into) in
     let name = spaced (word.Name table) in
     let v = spaced (word.Key key.Values) in
-    let o = spaced (word.Mark 40 0) in
-    let c = spaced (word.Mark 41 0) in
+    let o = spaced (word.Mark mark.open_paren mark.none) in
+    let c = spaced (word.Mark mark.close_paren mark.none) in
     let items = listed_words literal_words values in
-    let inner : listed_text literal_text values ++ c ≡ spelled (items ++ word.Mark 41 0 ∷ []) =
-    ap (λ y. y ++ c) (listed_spelled literal_text literal_words literal values) ∙ ap (λ y. spelled items ++ y) (one (word.Mark 41 0)) ∙ sym (spelled_append items (word.Mark 41 0 ∷ [])) in
+    let inner : listed_text literal_text values ++ c ≡ spelled (items ++ word.Mark mark.close_paren mark.none ∷ []) =
+    ap (λ y. y ++ c) (listed_spelled literal_text literal_words literal values) ∙ ap (λ y. spelled items ++ y) (one (word.Mark mark.close_paren mark.none)) ∙ sym (spelled_append items (word.Mark mark.close_paren mark.none ∷ [])) in
     seven i into name v o (listed_text literal_text values) c ∙ ap (λ x. i ++ (into ++ (name ++ (v ++ (o ++ x))))) inner
 
 select_spelled : (table : List ℕ) (columns : Option (List (List ℕ))) (cond : Option Expr) → select_text table columns cond ≡ spelled (said_words (st.Select table columns cond))

@@ -26,6 +26,7 @@ use Rattle.sk_rows.specs.declared.statement.Begun.TheVariants as begun
 use Rattle.sk_rows.specs.declared.statement.SetItem.{SetItem}
 use Rattle.sk_rows.specs.declared.statement.Statement.{Statement}
 use Rattle.sk_rows.specs.declared.statement.Statement.TheVariants as st
+use Rattle.sk_lex.specs.Marks as mark
 use Rattle.sk_parse.specs.Printed.{strength, left_at, right_at, op_word, literal_words, wrapped, print_step, printed, nesting, is_int, is_literal, is_text, spelled_step, can_be_spelled, more_words, listed_words, name_words, set_words, cond_words, shown_words, said_words, is_expression, is_condition, are_some, are_shown, is_set, can_be_printed}
 use Rattle.sk_parse.specs.Spelled.{IsReadAs, said_text}
 use Rattle.sk_parse.proofs.Said.{read_as}
@@ -219,7 +220,7 @@ op_spelled op.Mul = refl
 
 wrapped_spelled : (asked : Bool) (ws : List Word) → list_all is_spelled_word ws ≡ true → list_all is_spelled_word (wrapped asked ws) ≡ true
 unfolding is_single
-wrapped_spelled true ws all = all-append ws (word.Mark 41 0 ∷ []) all refl
+wrapped_spelled true ws all = all-append ws (word.Mark mark.close_paren mark.none ∷ []) all refl
 wrapped_spelled false ws all = all
 
 abbrev IsSpelled : Expr → Type 0
@@ -268,7 +269,7 @@ set_spelled : (item : SetItem) → is_set item ≡ true → list_all is_spelled_
 unfolding is_single
 set_spelled item is =
     let parts = and_parts (is_name item.column) (is_expression item.value) is in
-    named item.column (word.Mark 61 0 ∷ printed item.value 0) parts.0 (expr_spelled item.value parts.1)
+    named item.column (word.Mark mark.equals mark.none ∷ printed item.value 0) parts.0 (expr_spelled item.value parts.1)
 
 cond_spelled : (c : Option Expr) → is_condition c ≡ true → list_all is_spelled_word (cond_words c) ≡ true
 cond_spelled None is = refl
@@ -289,7 +290,7 @@ said_spelled st.Rollback is = refl
 said_spelled (st.Insert table values) is =
     let parts = and_parts (is_name table) (are_some is_literal values) is in
     let items = listed_spelled is_literal literal_words literal_spelled values parts.1 in
-    named table (listed_words literal_words values ++ word.Mark 41 0 ∷ []) parts.0 (all-append (listed_words literal_words values) (word.Mark 41 0 ∷ []) items refl)
+    named table (listed_words literal_words values ++ word.Mark mark.close_paren mark.none ∷ []) parts.0 (all-append (listed_words literal_words values) (word.Mark mark.close_paren mark.none ∷ []) items refl)
 said_spelled (st.Select table columns c) is =
     let parts = and_parts (is_name table && are_shown columns) (is_condition c) is in
     let front = and_parts (is_name table) (are_shown columns) parts.0 in

@@ -75,14 +75,6 @@ cut_not_made old last x y made e f t r h =
     let is : made ≡ makes_cut r x y r.store = cut_is old last x y made e f r h in
     (is, subst (λ c. StandsFor old (after_all r (cond c (append_steps r (selection x y)) []))) (sym (sym is ∙ t)) h)
 
-pub cut_answers : (old new : Points) (x y : ℕ) (made : Bool) (cut : Option Point) → AppendsCut old new x y made → cut ≡ greatest_within x y None (points_in new.parts.items)
-    → Answers StandsFor old new (λ r. ◌≡◌ {A = CutFound} (record { cut = cut; made = made }) (cut_found r x y r.store)) (λ r. after_cut r x y r.store)
-cut_answers old new x y made cut did e r h =
-    let d : (made ≡ makes_cut r x y r.store) × StandsFor new (after_cut r x y r.store) = did r h in (
-      ap (λ (b : Bool). record { cut = cut; made = b }) d.0 ∙ ap (λ (o : Option Point). record { cut = o; made = makes_cut r x y r.store }) (e ∙ ap (greatest_within x y None) d.1.live),
-      d.1,
-    )
-
 pub select_appends : (old new : Points) (a : ℕ) (oldest : Point) (s : Selected) → oldest ≡ first_of (points_in old.parts.items) → oldest.a ≤ a → Picks old a s → s.made ≡ true → HasDrawn StandsFor old a 0 → Appends old new (selection a s.b)
     → Answers StandsFor old new (λ r. ◌≡◌ {A = Result Selected Recycled} (Ok s) (selected r a r.store)) (λ r. after_selection r a r.store)
 select_appends old new a oldest s e l picks t drawn appends r h =

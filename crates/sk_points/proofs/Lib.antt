@@ -5,5 +5,5 @@ pub mod Adding
 pub mod Searching
 pub mod Picking
 -- the state that it stands for, call by call
-pub mod Standing
+pub mod Settled
 pub mod Calls

@@ -73,10 +73,3 @@ module _ (is_store : ℕ → Bool) where
       same_tables (state base ours) (state base theirs) (length_state base ours ∙ sym (length_state base theirs))
       (λ t. state_by_writes base ours theirs t (same_writes mem more_mem store more_store o k t))
       ∙ fold-append after_commit base (mem ++ store) (more_mem ++ more_store)
-
-  -- and both engines' lists are still of their own tables
-  pub owned_behind : (mem more_mem store more_store : List Commit) → Owned is_store mem store → Owned is_store more_mem more_store → Owned is_store (mem ++ more_mem) (store ++ more_store)
-  owned_behind mem more_mem store more_store o k = record {
-    of_mem = each_append (OfKind false) mem more_mem o.of_mem k.of_mem;
-    of_store = each_append (OfKind true) store more_store o.of_store k.of_store;
-  }

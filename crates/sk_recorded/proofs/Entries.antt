@@ -24,7 +24,7 @@ use Rattle.sk_model.proofs.Lists.{Each, each_weaker}
 use Rattle.sk_model.proofs.Numbered.{filter-map, filter_agree_on, each_all}
 use Rattle.sk_model.proofs.Order.{legal_front}
 use Rattle.sk_model.proofs.Reading.{name_stays}
-use Rattle.sk_weave.specs.Reads.{number_at}
+use Rattle.sk_linked.specs.Reads.{number_at}
 use Rattle.sk_linked.specs.Traces.{Traces, commits_in, owed, In, Linked}
 use Rattle.sk_linked.proofs.Grounds.{start, all, all_allowed, filter_pass}
 use Rattle.sk_linked.proofs.Projection.{allowed_front}

@@ -21,7 +21,7 @@ use Rattle.sk_model.specs.Engine.{EngineTable, engine_at, write_at}
 use Rattle.sk_model.specs.EngineReplies.{commits_between}
 use Rattle.sk_model.specs.Legal.{due, step, after_entries}
 use Rattle.sk_weave.specs.Points.{selection, commit_point}
-use Rattle.sk_weave.specs.Reads.{number_at}
+use Rattle.sk_linked.specs.Reads.{number_at}
 use Rattle.sk_linked.specs.Traces.{In}
 use Rattle.sk_recorded.specs.Joined.{joined}
 use Rattle.sk_recorded.specs.Entries.{records_entry, AreEnough}

@@ -17,7 +17,7 @@ use Rattle.sk_weave.specs.Points.{Pair}
 use Rattle.sk_weave.specs.Woven.{Owned}
 use Rattle.sk_weave.specs.Laws.{mem_upto, store_upto}
 use Rattle.sk_weave.specs.PrefixLaws.{prefix_at}
-use Rattle.sk_weave.specs.Reads.{number_at, order_of}
+use Rattle.sk_linked.specs.Reads.{number_at, order_of}
 use Rattle.sk_weave.proofs.Cuts.{points_are_pairs}
 use Rattle.sk_weave.proofs.Engines.{by_engines}
 use Rattle.sk_linked.specs.Traces.{Traces, run_of, commits_in, In, Linked}

@@ -6,7 +6,7 @@ use Rattle.std.proofs.lemmas.List.Concat.{flat_map-append}
 use Rattle.sk_model.specs.declared.engine.EngineName.{EngineName}
 use Rattle.sk_model.specs.declared.point.Point.{Point}
 use Rattle.sk_model.specs.declared.call.Entry.{Entry}
-use Rattle.sk_weave.specs.Reads.{number_at}
+use Rattle.sk_linked.specs.Reads.{number_at}
 use Rattle.sk_linked.proofs.Members.{in_front}
 use Rattle.sk_recorded.specs.Joined.{joined}
 use Rattle.sk_recorded.specs.Entries.{records_entry, AreEnough}

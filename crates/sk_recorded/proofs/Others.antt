@@ -9,7 +9,7 @@ use Rattle.sk_model.specs.declared.point.Point.{Point}
 use Rattle.sk_model.specs.Stamped.{number_in}
 use Rattle.sk_model.proofs.Lists.{Each}
 use Rattle.sk_weave.specs.Points.{CanFollow, Climbs}
-use Rattle.sk_weave.specs.Reads.{number_at}
+use Rattle.sk_linked.specs.Reads.{number_at}
 use Rattle.sk_weave.specs.Woven.{At}
 use Rattle.sk_linked.specs.Traces.{In}
 use Rattle.sk_recorded.specs.Joined.{other_at, from_number, other_first, other_number, set_other, with_other}

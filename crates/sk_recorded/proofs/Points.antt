@@ -8,7 +8,7 @@ use Rattle.sk_model.specs.declared.engine.EngineName.TheVariants.{Mem}
 use Rattle.sk_model.specs.declared.point.Point.{Point}
 use Rattle.sk_model.proofs.Lists.{Each}
 use Rattle.sk_weave.specs.Points.{Climbs, Ascends}
-use Rattle.sk_weave.specs.Reads.{number_at}
+use Rattle.sk_linked.specs.Reads.{number_at}
 use Rattle.sk_linked.specs.Traces.{In}
 use Rattle.sk_linked.proofs.Members.{in_front}
 use Rattle.sk_recorded.specs.Joined.{from_number}

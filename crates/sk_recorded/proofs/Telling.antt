@@ -24,7 +24,7 @@ use Rattle.sk_model.proofs.Lists.{Each, each_weaker}
 use Rattle.sk_model.proofs.Listed.{are_commits}
 use Rattle.sk_model.proofs.Quiet.{each_map_from}
 use Rattle.sk_model.proofs.Reading.{name_stays}
-use Rattle.sk_weave.specs.Reads.{number_at}
+use Rattle.sk_linked.specs.Reads.{number_at}
 use Rattle.sk_linked.specs.Traces.{drawn_at, Transaction, Traces, commit_in, commits_in, owed_by, In, stamp_entry, close_entry, Drew, CommitOf, Linked}
 use Rattle.sk_linked.proofs.Members.{each_in, in_append, some_clash, unlike_same}
 use Rattle.sk_linked.proofs.Meeting.{filter_in}

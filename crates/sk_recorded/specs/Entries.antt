@@ -9,7 +9,7 @@ use Rattle.sk_model.specs.declared.call.EngineCall.TheVariants as call
 use Rattle.sk_model.specs.declared.call.EngineReply.TheVariants.{Commits}
 use Rattle.sk_model.specs.declared.call.Entry.{Entry}
 use Rattle.sk_weave.specs.Points.{Ascends}
-use Rattle.sk_weave.specs.Reads.{number_at}
+use Rattle.sk_linked.specs.Reads.{number_at}
 use Rattle.sk_linked.specs.Traces.{In}
 use Rattle.sk_recorded.specs.Joined.{from_number}
 

@@ -9,7 +9,7 @@ use Rattle.sk_model.specs.declared.call.Entry.{Entry}
 use Rattle.sk_model.specs.Database.{state}
 use Rattle.sk_weave.specs.Laws.{mem_upto, store_upto}
 use Rattle.sk_weave.specs.PrefixLaws.{prefix_at}
-use Rattle.sk_weave.specs.Reads.{Run, number_at, order_of}
+use Rattle.sk_linked.specs.Reads.{Run, number_at, order_of}
 use Rattle.sk_linked.specs.Traces.{In}
 use Rattle.sk_recorded.specs.Joined.{joined}
 use Rattle.sk_recorded.specs.Entries.{records_entry, AreEnough}

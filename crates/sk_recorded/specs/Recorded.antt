@@ -5,7 +5,7 @@ use Rattle.sk_model.specs.declared.engine.EngineName.{EngineName}
 use Rattle.sk_model.specs.declared.point.Point.{Point}
 use Rattle.sk_model.specs.declared.commit.Commit.{Commit}
 use Rattle.sk_model.specs.Database.{Tables}
-use Rattle.sk_weave.specs.Reads.{Run}
+use Rattle.sk_linked.specs.Reads.{Run}
 use Rattle.sk_linked.specs.Traces.{run_of, In}
 use Rattle.sk_linked.specs.Kept.{traces_in}
 use Rattle.sk_session.specs.Common.{Common}

@@ -10,7 +10,7 @@ use Rattle.sk_model.specs.Engine.{keeps}
 use Rattle.sk_weave.specs.Woven.{Owned}
 use Rattle.sk_weave.specs.Laws.{mem_upto, store_upto}
 use Rattle.sk_weave.specs.PrefixLaws.{prefix_at}
-use Rattle.sk_weave.specs.Reads.{Run, order_of}
+use Rattle.sk_linked.specs.Reads.{Run, order_of}
 use Rattle.sk_linked.specs.Traces.{In}
 use Rattle.sk_session.specs.Common.{Common}
 use Rattle.sk_kept.specs.Sessions.{Player}

@@ -16,7 +16,7 @@ use Rattle.sk_codec.specs.Reading.{Rest, bit_at}
 use Rattle.sk_codec.specs.Records.{content_at, key_of, key_sort, table_at, write_at}
 use Rattle.sk_codec.specs.Rows.{field_at, row_at}
 use Rattle.sk_codec.proofs.Parts.{bind_ok, ok_is}
-use Rattle.sk_log.specs.Stores.{Reached, turns}
+use Rattle.sk_log.specs.Stores.{LogPosition, turns}
 use Rattle.sk_recover.proofs.RowsFit.{cells_are, cells_fit, fits_columns}
 use Rattle.sk_recover.proofs.LogsRead.{CommitsHave, table_is, turns_have}
 
@@ -62,9 +62,9 @@ write_fits tables store rest x e =
 -- ---- commits
 
 -- the commits so far fit
-abbrev pub CommitsFit : Reached → Type 0
+abbrev pub CommitsFit : LogPosition → Type 0
 CommitsFit s = CommitsHave WriteFits s
 
 -- of both logs all commits fit
-pub turns_fit : (n : ℕ) (one two : List ℕ) (s t : Reached) → turns n one two s ≡ Ok t → CommitsFit s → CommitsFit t
+pub turns_fit : (n : ℕ) (one two : List ℕ) (s t : LogPosition) → turns n one two s ≡ Ok t → CommitsFit s → CommitsFit t
 turns_fit = turns_have WriteFits write_fits

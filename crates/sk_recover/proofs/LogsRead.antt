@@ -18,7 +18,7 @@ use Rattle.sk_log.specs.declared.logged.Head.{Head}
 use Rattle.sk_log.specs.declared.logged.Logged.{Logged}
 use Rattle.sk_log.specs.Calls.{anchor_file, store_file}
 use Rattle.sk_log.specs.Groups.{body_at, halves, head_at, is_cross, logged_at, number_of, records_at, records_to}
-use Rattle.sk_log.specs.Stores.{Reached, body_of, commits, group_of, stored_of, turn, turns}
+use Rattle.sk_log.specs.Stores.{LogPosition, body_of, commits, group_of, stored_of, turn, turns}
 use Rattle.sk_log.proofs.Turns.{turn_cases, turned, went}
 use Rattle.sk_recover.proofs.RowsFit.{chosen, chosen_by, items_each}
 
@@ -45,7 +45,7 @@ abbrev pub EachWrite : (List Table → Bool → Write → Type 0) → List Table
 EachWrite P tables store c = AllByRecursion (P tables store) c.writes
 
 -- each write of the commits so far has it
-pub record CommitsHave (P : List Table → Bool → Write → Type 0) (s : Reached) : Type 0 where
+pub record CommitsHave (P : List Table → Bool → Write → Type 0) (s : LogPosition) : Type 0 where
   pub mem : AllByRecursion (EachWrite P s.catalog false) s.mem
   pub store : AllByRecursion (EachWrite P s.catalog true) s.store
 
@@ -54,7 +54,7 @@ at_end : {A : Type 0} (b : Bool) (x y : A) (r : Result A Fault) → cond b (Ok x
 at_end true x y r e = inl cc
 at_end false x y r e = inr e
 
-no_turns : (one two : List ℕ) (s t : Reached) → turns zero one two s ≡ Ok t → ⊥
+no_turns : (one two : List ℕ) (s t : LogPosition) → turns zero one two s ≡ Ok t → ⊥
 unfolding turns
 no_turns one two s t e = absurd cc
 
@@ -110,14 +110,14 @@ module _ (P : List Table → Bool → Write → Type 0) (law : (tables : List Ta
 
   -- ---- groups
 
-  body_of_has : (s : Reached) (next : ℕ) (bytes : List ℕ) (x : Head × List Logged) → body_of s next bytes ≡ Ok x → AllByRecursion (LoggedHas s.catalog false) x.1
+  body_of_has : (s : LogPosition) (next : ℕ) (bytes : List ℕ) (x : Head × List Logged) → body_of s next bytes ≡ Ok x → AllByRecursion (LoggedHas s.catalog false) x.1
   unfolding body_of
   body_of_has s next bytes x e =
       let head = bind_ok (head_at s.cut s.end (record { file = anchor_file s.set; place = s.gate + 5; bytes = bytes })) _ _ e in
       let mem = bind_ok (body_at s.catalog s.cut.a head.0.0.cut.a next head.0.1) _ _ head.2 in
       subst (λ (y : Head × List Logged). AllByRecursion (LoggedHas s.catalog false) y.1) (ok_is _ _ mem.2) (body_has s.catalog s.cut.a head.0.0.cut.a next head.0.1 mem.0 mem.1)
 
-  stored_of_has : (s : Reached) (head : Head) (bytes : List ℕ) (fs : List Logged) → stored_of s head bytes ≡ Ok fs → AllByRecursion (LoggedHas s.catalog true) fs
+  stored_of_has : (s : LogPosition) (head : Head) (bytes : List ℕ) (fs : List Logged) → stored_of s head bytes ≡ Ok fs → AllByRecursion (LoggedHas s.catalog true) fs
   unfolding stored_of
   stored_of_has s head bytes fs e = records_have s.catalog true _ _ _ _ _ fs e
 
@@ -125,20 +125,20 @@ module _ (P : List Table → Bool → Write → Type 0) (law : (tables : List Ta
   more_have : (tables : List Table) (store : Bool) (cs : List Commit) (fs : List Logged) → AllByRecursion (EachWrite P tables store) cs → AllByRecursion (LoggedHas tables store) fs → AllByRecursion (EachWrite P tables store) (cs ++ commits fs)
   more_have tables store cs fs so_far more = each_append (EachWrite P tables store) cs (commits fs) so_far (each_map (EachWrite P tables store) (λ (f : Logged). f.commit) fs more)
 
-  group_has : (s u : Reached) (head : Head) (mem store : List Logged) (next : ℕ) → group_of s head mem store next ≡ Ok u → AllByRecursion (LoggedHas s.catalog false) mem → AllByRecursion (LoggedHas s.catalog true) store → CommitsHave P s → CommitsHave P u
+  group_has : (s u : LogPosition) (head : Head) (mem store : List Logged) (next : ℕ) → group_of s head mem store next ≡ Ok u → AllByRecursion (LoggedHas s.catalog false) mem → AllByRecursion (LoggedHas s.catalog true) store → CommitsHave P s → CommitsHave P u
   unfolding group_of
   group_has s u head mem store next e in_mem in_store have =
       let both = bind_ok (halves (store_file s.set) (anchor_file s.set) (filter is_cross store) (filter is_cross mem)) _ _ e in
       subst (CommitsHave P) (ok_is _ _ both.2) (record { mem = more_have s.catalog false s.mem mem have.mem in_mem; store = more_have s.catalog true s.store store have.store in_store })
 
-  turn_has : (one two : List ℕ) (s u : Reached) → turn one two s ≡ Ok (Some u) → CommitsHave P s → CommitsHave P u
+  turn_has : (one two : List ℕ) (s u : LogPosition) → turn one two s ≡ Ok (Some u) → CommitsHave P s → CommitsHave P u
   turn_has one two s u e have =
       let t = turned one two s u e in
       let w = went one two s u t.next t.is_group in
       group_has s u w.body.0 w.body.1 w.store t.next w.is_group (body_of_has s t.next _ w.body w.is_body) (stored_of_has s w.body.0 _ w.store w.is_store) have
 
   -- of both logs all commits have it
-  pub turns_have : (n : ℕ) (one two : List ℕ) (s t : Reached) → turns n one two s ≡ Ok t → CommitsHave P s → CommitsHave P t
+  pub turns_have : (n : ℕ) (one two : List ℕ) (s t : LogPosition) → turns n one two s ≡ Ok t → CommitsHave P s → CommitsHave P t
   turns_have zero one two s t e have = absurd (no_turns one two s t e)
   turns_have (suc n) one two s t e have = elim (turn_cases n one two s t e) [
     | inl here ↦ subst (CommitsHave P) here.1 have

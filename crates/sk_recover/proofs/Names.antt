@@ -1,18 +1,14 @@
 -- A name is a text.
 use Rattle.std.proofs.Common.{◌≡◌, ℕ, Bool, true, false, ◌≤◌, leb, eqb, ◌&&◌, List, refl, arith, inl, inr, ◌⊎◌}
 use Rattle.std.specs.Prelude.{◌||◌, not}
-use Rattle.std.proofs.lemmas.Bool.{and_parts, leb-true, eqb-true}
+use Rattle.std.proofs.lemmas.Bool.{and_parts, leb-true, eqb-true, or_cases}
 use Rattle.sk_rows.specs.Names.{is_name, is_name_byte, is_digit, are_name_bytes, has_name_length, begins_with_digit, is_keyword}
 use Rattle.sk_rows.specs.Text.{ArePrintable}
 use Rattle.std.proofs.lemmas.List.Sums.{AllPass-from_list_all}
 
-either : (a b : Bool) → (a || b) ≡ true → (a ≡ true) ⊎ (b ≡ true)
-either true b e = inl refl
-either false b e = inr e
-
 byte_prints : (b : ℕ) → is_name_byte b ≡ true → (32 ≤ b) × (b ≤ 126)
-byte_prints b e = elim (either ((leb 97 b && leb b 122) || is_digit b) (eqb b 95) e) [
-  | inl rest ↦ elim (either (leb 97 b && leb b 122) (is_digit b) rest) [
+byte_prints b e = elim (or_cases ((leb 97 b && leb b 122) || is_digit b) (eqb b 95) e) [
+  | inl rest ↦ elim (or_cases (leb 97 b && leb b 122) (is_digit b) rest) [
     | inl letter ↦ let p = and_parts (leb 97 b) (leb b 122) letter in let low = leb-true _ _ p.0 in let high = leb-true _ _ p.1 in (omega (arith, low), omega (arith, high))
     | inr digit ↦ let p = and_parts (leb 48 b) (leb b 57) digit in let low = leb-true _ _ p.0 in let high = leb-true _ _ p.1 in (omega (arith, low), omega (arith, high))
   ]

@@ -29,7 +29,7 @@ use Rattle.sk_model.specs.Resembling.{CommitFits}
 use Rattle.sk_model.proofs.Lists.{each_append}
 use Rattle.sk_log.specs.Calls.{image_file}
 use Rattle.sk_log.specs.Images.{rows_at, each_at, all_rows_at, Base, base_at}
-use Rattle.sk_log.specs.Stores.{Root, Reached, begun, byte_in, entry_at, no_rows, opened, rows_of, turns}
+use Rattle.sk_log.specs.Stores.{Root, LogPosition, begun, byte_in, entry_at, no_rows, opened, rows_of, turns}
 use Rattle.sk_log.proofs.Turns.{lies}
 use Rattle.sk_recover.specs.Taking.{Rise}
 use Rattle.sk_recover.specs.Opened.{AllFit, AreOrdered}
@@ -119,7 +119,7 @@ none_counted (table ∷ tables) = ap suc (none_counted tables)
 -- ---- rows that fit
 
 -- what a store opens with fits its tables
-pub stored_fits : (root : Root) (base one two : List ℕ) (b : Base) (t : Reached) → base_at (image_file root.set) base root.size ≡ Ok b → turns (length two + 1) one two (begun root b) ≡ Ok t → IsCatalog b.catalog
+pub stored_fits : (root : Root) (base one two : List ℕ) (b : Base) (t : LogPosition) → base_at (image_file root.set) base root.size ≡ Ok b → turns (length two + 1) one two (begun root b) ≡ Ok t → IsCatalog b.catalog
     → AllFit b.catalog (rows_of (opened b t))
 stored_fits root base one two b t is_base is_last is =
     let first : CommitsFit (begun root b) = record { mem = tt; store = tt } in

@@ -25,7 +25,7 @@ use Rattle.sk_log.specs.Growth.{OpensAs}
 use Rattle.sk_recover.specs.declared.opening.OpenFault.{OpenFault}
 use Rattle.sk_recover.specs.declared.opening.OpenFault.TheVariants as fault
 use Rattle.sk_recover.specs.Taking.{Rise}
-use Rattle.sk_recover.specs.Views.{reached_of, IsReached}
+use Rattle.sk_recover.specs.Views.{position_of, IsReached}
 
 -- a reader's fault, as an opening answers it
 abbrev pub told : ReadFault → OpenFault
@@ -37,7 +37,7 @@ abbrev pub base_in : Stored → Base
 base_in s = record { catalog = s.catalog; rows = s.rows.items }
 
 abbrev pub opening_of : Stored → Opening
-opening_of s = opened (base_in s) (reached_of s.catalog s.reached)
+opening_of s = opened (base_in s) (position_of s.catalog s.reached)
 
 -- What a function returned is what was meant, or the first fault, unless the device failed or memory ran out.
 abbrev pub Refuses : {Y : Type 0} → OpenFault → Result Y Fault → Type 0

@@ -10,8 +10,8 @@ use Rattle.sk_codec.specs.declared.fault.ReadFault.{ReadFault}
 use Rattle.sk_model.specs.Numbers.{greatest_number}
 use Rattle.sk_recover.specs.declared.turn.Turned.{Turned}
 use Rattle.sk_recover.specs.declared.turn.Turned.TheVariants as turned
-use Rattle.sk_log.specs.Stores.{Reached, turn}
-use Rattle.sk_recover.specs.declared.turn.Reached.{Reached as AnyReached}
+use Rattle.sk_log.specs.Stores.{LogPosition, turn}
+use Rattle.sk_recover.specs.declared.turn.LogPosition.{LogPosition as AnyReached}
 use Rattle.sk_log.specs.Images.{Base, column_at, table_at, keyed_at}
 
 -- so many columns behind these
@@ -29,8 +29,8 @@ keyeds_at columns count before rest = items_at (keyed_at columns) (λ before row
 abbrev pub base_of : List Table × Vec (List (Value × List Value)) Global → Base
 base_of x = record { catalog = x.0; rows = x.1.items }
 
-abbrev pub reached_of : List Table → AnyReached → Reached
-reached_of catalog r = record { catalog = catalog; set = r.set; cut = r.cut; end = r.end; gate = r.gate; mem = r.mem; store = r.store }
+abbrev pub position_of : List Table → AnyReached → LogPosition
+position_of catalog r = record { catalog = catalog; set = r.set; cut = r.cut; end = r.end; gate = r.gate; mem = r.mem; store = r.store }
 
 -- what holds of a place between two groups that was read
 pub record IsReached (r : AnyReached) : Type 0 where
@@ -39,12 +39,12 @@ pub record IsReached (r : AnyReached) : Type 0 where
   pub store : r.cut.b ≤ greatest_number
   pub selection : r.cut.commit ≡ false
 
-abbrev pub reached_in : Turned → AnyReached
-reached_in (turned.Closed r) = r
-reached_in (turned.Went r) = r
+abbrev pub position_in : Turned → AnyReached
+position_in (turned.Closed r) = r
+position_in (turned.Went r) = r
 
 -- what a turn from there comes to
 abbrev pub IsTurn : List Table → List ℕ → List ℕ → AnyReached → Result Turned ReadFault → Type 0
-IsTurn catalog one two s (Ok (turned.Closed r)) = (turn one two (reached_of catalog s) ≡ Ok None) × (r ≡ s)
-IsTurn catalog one two s (Ok (turned.Went r)) = turn one two (reached_of catalog s) ≡ Ok (Some (reached_of catalog r))
-IsTurn catalog one two s (Err e) = Fails e (turn one two (reached_of catalog s))
+IsTurn catalog one two s (Ok (turned.Closed r)) = (turn one two (position_of catalog s) ≡ Ok None) × (r ≡ s)
+IsTurn catalog one two s (Ok (turned.Went r)) = turn one two (position_of catalog s) ≡ Ok (Some (position_of catalog r))
+IsTurn catalog one two s (Err e) = Fails e (turn one two (position_of catalog s))

@@ -15,7 +15,7 @@ ghost use Rattle.sk_recover.specs.declared.opening.OpenFault.TheVariants as faul
 use crate::image::base_at;
 use crate::making::{make_store, sync_all};
 use crate::rows::{no_rows, rows_behind};
-use crate::turn::{Reached, turns};
+use crate::turn::{LogPosition, turns};
 use crate::whole::{FileFault, read_file};
 use sk_codec::{ReadFault, What};
 use sk_device::Device;
@@ -55,7 +55,7 @@ pub struct Stored {
     /// The rows of the image, table by table, each with its key, in the order of the keys.
     pub rows: Vec<KeyedRows>,
     /// What was committed since the image, the cut, and where the logs end.
-    pub reached: Reached,
+    pub reached: LogPosition,
 }
 
 fn damaged(why: ReadFault) -> OpenFault
@@ -107,7 +107,7 @@ fn stored_of(
         Ok(base) => base,
         Err(fault) => return Err(damaged(fault)),
     };
-    let begun = Reached {
+    let begun = LogPosition {
         set: root.set,
         cut: root.cut,
         end: 0,

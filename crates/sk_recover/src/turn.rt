@@ -5,7 +5,7 @@ ghost use Rattle.sk_rows.specs.declared.table.Table.{Table as AnyTable};
 ghost use Rattle.sk_codec.specs.Reading.{ReadsAs};
 ghost use Rattle.sk_model.specs.Numbers.{greatest_number};
 ghost use Rattle.sk_log.specs.Stores.{at_place, commits, range_of, body_of, stored_of, group_of, group_at, next_gate, behind_gate, turn, turns};
-ghost use Rattle.sk_recover.specs.Views.{reached_of, reached_in, IsReached, IsTurn};
+ghost use Rattle.sk_recover.specs.Views.{position_of, position_in, IsReached, IsTurn};
 ghost use Rattle.sk_codec.specs.declared.fault.ReadFault.TheVariants.{Wrong, NoMemory};
 
 use crate::group::{body_at, halves, head_at, records_to};
@@ -18,7 +18,7 @@ use std::alloc::Global;
 
 /// What is known between two groups.
 #[derive(Debug, Drop)]
-pub struct Reached {
+pub struct LogPosition {
     /// The set of files, 0 or 1.
     pub set: u8,
     /// The cut of the last group, at first the root's.
@@ -73,13 +73,13 @@ fn next_gate(set: u8, gate: u32, two: &[u8]) -> Result<u32, ReadFault>
 fn body_of(
     alloc: Global,
     tables: &[Table],
-    s: &Reached,
+    s: &LogPosition,
     next: u32,
     two: &[u8],
 ) -> Result<(Head, Vec<Logged>), ReadFault>
     requires set { s.now.set < 2 }
     requires cut { s.now.cut.a ≤ greatest_number }
-    ensures value { ReadsAs (λ x. (x.0, x.1.items)) result (body_of (reached_of tables.now s.now) next (range_of two.now (s.now.gate + 5) next)) }
+    ensures value { ReadsAs (λ x. (x.0, x.1.items)) result (body_of (position_of tables.now s.now) next (range_of two.now (s.now.gate + 5) next)) }
     ensures small { IfOk result (λ x. (x.0.cut.a ≤ greatest_number) × (x.0.cut.b ≤ greatest_number) × (s.now.end ≤ x.0.end)) }
     ensures selection { IfOk result (λ x. x.0.cut.commit ≡ false) }
 {
@@ -97,14 +97,14 @@ fn body_of(
 fn stored_of(
     alloc: Global,
     tables: &[Table],
-    s: &Reached,
+    s: &LogPosition,
     head: &Head,
     one: &[u8],
 ) -> Result<Vec<Logged>, ReadFault>
     requires set { s.now.set < 2 }
     requires cut { s.now.cut.b ≤ greatest_number }
     requires end { s.now.end ≤ head.now.end }
-    ensures { ReadsAs (λ x. x.items) result (stored_of (reached_of tables.now s.now) head.now (range_of one.now s.now.end head.now.end)) }
+    ensures { ReadsAs (λ x. x.items) result (stored_of (position_of tables.now s.now) head.now (range_of one.now s.now.end head.now.end)) }
 {
     let rest = Rest {
         file: 1 + 2 * s.set,
@@ -147,14 +147,14 @@ fn push_commits(list: &mut CommitList, logged: Vec<Logged>) -> Result<(), ReadFa
 /// The group behind an open gate, from the records of its body and of its range of the storage log.
 #[tactic(auto, unfolding(sk_log::specs::Stores::group_of))]
 fn group_of(
-    s: Reached,
+    s: LogPosition,
     head: Head,
     mem: Vec<Logged>,
     store: Vec<Logged>,
     gate: u32,
-) -> Result<Reached, ReadFault>
+) -> Result<LogPosition, ReadFault>
     requires { IsReached s }
-    ensures value { (catalog : List AnyTable) → ReadsAs (reached_of catalog) result (group_of (reached_of catalog s) head mem.items store.items gate) }
+    ensures value { (catalog : List AnyTable) → ReadsAs (position_of catalog) result (group_of (position_of catalog s) head mem.items store.items gate) }
     ensures places { IfOk result (λ x. (x.set ≡ s.set) × (x.cut ≡ head.cut)) }
 {
     halves(
@@ -167,7 +167,7 @@ fn group_of(
     let mut all_store = s.store;
     push_commits(&mut all_mem, mem)?;
     push_commits(&mut all_store, store)?;
-    Ok(Reached {
+    Ok(LogPosition {
         set: s.set,
         cut: head.cut,
         end: head.end,
@@ -183,11 +183,11 @@ fn group_at(
     tables: &[Table],
     one: &[u8],
     two: &[u8],
-    s: Reached,
+    s: LogPosition,
     next: u32,
-) -> Result<Reached, ReadFault>
+) -> Result<LogPosition, ReadFault>
     requires { IsReached s }
-    ensures value { ReadsAs (reached_of tables.now) result (group_at one.now two.now (reached_of tables.now s) next) }
+    ensures value { ReadsAs (position_of tables.now) result (group_at one.now two.now (position_of tables.now s) next) }
     ensures reached { IfOk result (λ x. IsReached x) }
 {
     let (head, mem) = body_of(alloc, tables, &s, next, two)?;
@@ -204,10 +204,10 @@ fn behind_gate(
     tables: &[Table],
     one: &[u8],
     two: &[u8],
-    s: Reached,
-) -> Result<Reached, ReadFault>
+    s: LogPosition,
+) -> Result<LogPosition, ReadFault>
     requires { IsReached s }
-    ensures value { ReadsAs (reached_of tables.now) result (behind_gate one.now two.now (reached_of tables.now s)) }
+    ensures value { ReadsAs (position_of tables.now) result (behind_gate one.now two.now (position_of tables.now s)) }
     ensures reached { IfOk result (λ x. IsReached x) }
 {
     let next = next_gate(s.set, s.gate, two)?;
@@ -218,9 +218,9 @@ fn behind_gate(
 #[derive(Drop)]
 pub enum Turned {
     /// The gate is closed, so that this is all.
-    Closed(Reached),
+    Closed(LogPosition),
     /// A group was read.
-    Went(Reached),
+    Went(LogPosition),
 }
 
 #[tactic(auto, unfolding(sk_log::specs::Stores::turn))]
@@ -229,11 +229,11 @@ fn turn(
     tables: &[Table],
     one: &[u8],
     two: &[u8],
-    s: Reached,
+    s: LogPosition,
 ) -> Result<Turned, ReadFault>
     requires { IsReached s }
     ensures value { IsTurn tables.now one.now two.now s result }
-    ensures reached { IfOk result (λ t. IsReached (reached_in t)) }
+    ensures reached { IfOk result (λ t. IsReached (position_in t)) }
 {
     if two.len() <= s.gate as usize {
         return Err(fault_at(What::Length, 2 + 2 * s.set, s.gate));
@@ -250,10 +250,10 @@ pub fn turns(
     tables: &[Table],
     one: &[u8],
     two: &[u8],
-    s: Reached,
-) -> Result<Reached, ReadFault>
+    s: LogPosition,
+) -> Result<LogPosition, ReadFault>
     requires { IsReached s }
-    ensures value { ReadsAs (reached_of tables.now) result (turns (length two.now + 1) one.now two.now (reached_of tables.now s)) }
+    ensures value { ReadsAs (position_of tables.now) result (turns (length two.now + 1) one.now two.now (position_of tables.now s)) }
     ensures reached { IfOk result (λ x. IsReached x) }
 {
     let mut reached = s;

@@ -1,7 +1,7 @@
 -- What the tables of a catalog are.
 use Rattle.std.proofs.Common.{◌≡◌, ◌<◌, Bool, true, false, cond, not, ◌&&◌, ◌||◌, List, [], ◌∷◌, ◌++◌, append_assoc, append-nil, length, length-append, Option, Some, None, refl, sym, ap, ◌∙◌, arith, nat_le}
 use Rattle.std.specs.List.{list_all}
-use Rattle.std.proofs.lemmas.Bool.{and_parts, leb-false, lt-leb}
+use Rattle.std.proofs.lemmas.Bool.{and_parts, leb-false, lt-leb, not-true, not-false, or_parts}
 use Rattle.std.proofs.lemmas.List.Folds.{list_all-append}
 use Rattle.sk_rows.specs.declared.catalog.CatalogFault.{CatalogFault}
 use Rattle.sk_rows.specs.declared.catalog.CatalogFault.TheVariants.{Name, Columns, KeyColumn, TooMany}
@@ -16,18 +16,6 @@ passed false fault rest e = e
 refused : (wrong : Bool) (fault : CatalogFault) (rest : Option CatalogFault) → cond wrong (Some fault) rest ≡ None → wrong ≡ false
 refused true fault rest e = absurd cc
 refused false fault rest e = refl
-
-neither : (a b : Bool) → (a || b) ≡ false → (a ≡ false) × (b ≡ false)
-neither true b e = absurd cc
-neither false b e = (refl, e)
-
-is_so : (b : Bool) → not b ≡ false → b ≡ true
-is_so true e = refl
-is_so false e = absurd cc
-
-is_not : (b : Bool) → not b ≡ true → b ≡ false
-is_not true e = absurd cc
-is_not false e = refl
 
 -- what a table that is taken is, and what the tables before it are
 record Taken (tables : List Table) (t : Table) : Type 0 where
@@ -48,11 +36,11 @@ taken tables t e =
     let past_name : columns ≡ None = passed bad_name Name columns e in
     let past_columns : key ≡ None = passed (not (are_columns t.columns)) Columns key past_name in
     let past_key : last ≡ None = passed (has_bool_key t.columns) KeyColumn last past_columns in
-    let name = neither (not (is_name t.name)) (has_table t.name tables) (refused bad_name Name columns e) in
+    let name = or_parts (not (is_name t.name)) (has_table t.name tables) (refused bad_name Name columns e) in
     record {
-      named = is_so (is_name t.name) name.0;
+      named = not-false (is_name t.name) name.0;
       alone = name.1;
-      columns = is_so (are_columns t.columns) (refused (not (are_columns t.columns)) Columns key past_name);
+      columns = not-false (are_columns t.columns) (refused (not (are_columns t.columns)) Columns key past_name);
       key = refused (has_bool_key t.columns) KeyColumn last past_columns;
       few = leb-false 64 (length tables) (refused full TooMany None past_key);
     }
@@ -68,9 +56,6 @@ unlike-append before (t ∷ a) b =
     let front = are_unlike (before ++ t ∷ []) a in
     let rest = ap (λ l. are_unlike l b) (append_assoc before (t ∷ []) a) in
     ap (λ x. new && x) (unlike-append (before ++ t ∷ []) a b ∙ ap (λ x. front && x) rest) ∙ regroup new front _
-
-pub catalog_none : IsCatalog []
-catalog_none = record { few = omega arith; good = refl; unlike = refl }
 
 -- a catalog stays one with a table that it takes
 pub catalog_more : (tables : List Table) (t : Table) → IsCatalog tables → add_fault tables t ≡ None → IsCatalog (tables ++ t ∷ [])
@@ -91,9 +76,9 @@ catalog_took before t after is =
     let here = and_parts (is_table t) (list_all is_table after) all.1 in
     let parts = and_parts (is_name t.name && are_columns t.columns) (not (has_bool_key t.columns)) here.0 in
     let front = and_parts (is_name t.name) (are_columns t.columns) parts.0 in
-    let key = is_not (has_bool_key t.columns) parts.1 in
+    let key = not-true (has_bool_key t.columns) parts.1 in
     let unlike = and_parts (are_unlike [] before) (are_unlike before (t ∷ after)) (sym (unlike-append [] before (t ∷ after)) ∙ is.unlike) in
     let first = and_parts (not (has_table t.name before)) (are_unlike (before ++ t ∷ []) after) unlike.1 in
-    let alone = is_not (has_table t.name before) first.0 in
+    let alone = not-true (has_table t.name before) first.0 in
     let few : length before < 64 = omega (arith, is.few, length-append before (t ∷ after)) in
     rw (front.0, alone, front.1, key, lt-leb 64 (length before) few) refl

@@ -13,7 +13,7 @@ use Rattle.sk_model.specs.declared.call.Entry.{Entry}
 use Rattle.sk_model.specs.Database.{Tables}
 use Rattle.sk_model.specs.Engine.{EngineTable, engine_at}
 use Rattle.sk_model.proofs.Lists.{Each}
-use Rattle.sk_weave.specs.Reads.{number_at}
+use Rattle.sk_linked.specs.Reads.{number_at}
 use Rattle.sk_mem.specs.declared.engine.MemEngine.{MemEngine}
 use Rattle.sk_store.specs.declared.engine.StoreEngine.{StoreEngine}
 use Rattle.sk_store.specs.Loading.{AreOpeningRows}

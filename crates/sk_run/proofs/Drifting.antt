@@ -89,10 +89,6 @@ module _ (mem : MemEngine → EngineTable → List Entry → Type 0) (store : St
   flushed_drifts old new name asked (Ok said) h = with_drifts old new name asked (entered_reply said) h
   flushed_drifts old new name asked (Err e) h = with_drifts old new name asked None h
 
-  -- a horizon that was answered
-  pub gives_number : {E : Type 0} (old new : Shared) (name : EngineName) (asked : EngineCall) (n : ℕ) (result : Result EngineReply E) → result ≡ Ok (reply.Number n) → Flushed mem store old name asked result new → Gives mem store old name asked (reply.Number n) new
-  gives_number old new name asked n result is h = subst (λ r. Flushed mem store old name asked r new) is h
-
   -- the cut at two horizons that were answered
   cut_keeps : (old one two new : Shared) (x y : ℕ) → Gives mem store old Mem call.Horizon (reply.Number x) one → Gives mem store one Store call.Horizon (reply.Number y) two
       → ((c : Common) → Stands mem store two c → (found : CutFound) × (d : Common) × HasCut c x y found d × Stands mem store new d) → Drifts mem store old new

@@ -15,7 +15,7 @@ use Rattle.sk_model.specs.Records.{InTurn, OneDatabase}
 use Rattle.sk_model.specs.Spoken.{Outside}
 use Rattle.sk_model.specs.Talks.{Talk}
 use Rattle.sk_model.proofs.Lists.{Each}
-use Rattle.sk_weave.specs.Reads.{Run as CommitRun, order_of}
+use Rattle.sk_linked.specs.Reads.{Run as CommitRun, order_of}
 use Rattle.sk_linked.specs.Joining.{all_transactions}
 use Rattle.sk_linked.specs.Kept.{Account, Session as Spoken, Play, transaction_in, transactions_in, share_in, records_in, traces_in, IsPlay}
 use Rattle.sk_linked.specs.Traces.{run_of}

@@ -11,7 +11,7 @@ use Rattle.sk_model.specs.declared.call.Entry.{Entry}
 use Rattle.sk_model.specs.Engine.{EngineTable}
 use Rattle.sk_weave.specs.declared.answer.CutFound.{CutFound}
 use Rattle.sk_weave.specs.Points.{Ascends, Staircase}
-use Rattle.sk_weave.specs.Reads.{number_at}
+use Rattle.sk_linked.specs.Reads.{number_at}
 use Rattle.sk_weave.specs.Registry.{Regs, is_within, live_of, after_cut, greatest_within}
 use Rattle.sk_linked.specs.Traces.{In}
 use Rattle.sk_linked.proofs.Members.{in_front}

@@ -15,7 +15,7 @@ use Rattle.sk_model.specs.Database.{Tables}
 use Rattle.sk_model.specs.Engine.{EngineTable, engine_at}
 use Rattle.sk_model.specs.Talks.{Talk}
 use Rattle.sk_model.proofs.Lists.{Each, each_append}
-use Rattle.sk_weave.specs.Reads.{number_at}
+use Rattle.sk_linked.specs.Reads.{number_at}
 use Rattle.sk_linked.specs.Traces.{In}
 use Rattle.sk_linked.proofs.Members.{in_front}
 use Rattle.sk_store.specs.Loading.{AreOpeningRows}

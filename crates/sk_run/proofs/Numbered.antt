@@ -7,7 +7,7 @@ use Rattle.sk_model.specs.declared.engine.EngineName.TheVariants.{Mem, Store}
 use Rattle.sk_model.specs.declared.call.Entry.{Entry}
 use Rattle.sk_model.specs.declared.commit.Commit.{Commit}
 use Rattle.sk_model.specs.declared.record.Record.{Record}
-use Rattle.sk_weave.specs.Reads.{order_of}
+use Rattle.sk_linked.specs.Reads.{order_of}
 use Rattle.sk_linked.specs.Joining.{all_transactions}
 use Rattle.sk_linked.specs.Kept.{Account, Session, Play, transaction_in, transactions_in, share_in, records_in, traces_in, IsPlay}
 use Rattle.sk_linked.specs.Traces.{Transaction, Traces, drawn_at, run_of, In, Linked}

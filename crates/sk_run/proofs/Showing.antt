@@ -5,7 +5,7 @@ use Rattle.sk_rows.specs.declared.table.Table.{Table}
 use Rattle.sk_model.specs.declared.engine.EngineName.{EngineName}
 use Rattle.sk_model.specs.declared.point.Point.{Point}
 use Rattle.sk_model.specs.declared.call.Entry.{Entry}
-use Rattle.sk_weave.specs.Reads.{order_of}
+use Rattle.sk_linked.specs.Reads.{order_of}
 use Rattle.sk_linked.specs.Traces.{In}
 use Rattle.sk_session.specs.Common.{Common}
 use Rattle.sk_kept.specs.Sessions.{Player}

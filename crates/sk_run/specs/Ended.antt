@@ -12,7 +12,7 @@ use Rattle.sk_model.specs.Engine.{EngineTable, keeps}
 use Rattle.sk_model.specs.Records.{OneDatabase}
 use Rattle.sk_weave.specs.Woven.{Owned}
 use Rattle.sk_weave.specs.PrefixLaws.{prefix_at}
-use Rattle.sk_weave.specs.Reads.{order_of}
+use Rattle.sk_linked.specs.Reads.{order_of}
 use Rattle.sk_linked.specs.Traces.{run_of, In}
 use Rattle.sk_linked.specs.Kept.{Play, traces_in, records_in, IsPlay}
 use Rattle.sk_mem.specs.declared.engine.MemEngine.{MemEngine}

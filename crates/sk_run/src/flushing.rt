@@ -3,7 +3,7 @@
 ghost use Rattle.std.specs.Prelude.{◌≡◌, true, IfOk};
 ghost use Rattle.sk_model.specs.declared.call.EngineCall.TheVariants as call;
 ghost use Rattle.sk_model.specs.declared.call.EngineReply.TheVariants as reply;
-ghost use Rattle.sk_weave.specs.Reads.{number_at};
+ghost use Rattle.sk_linked.specs.Reads.{number_at};
 ghost use Rattle.sk_run.specs.Flushing.{
   Drifts,
   FindsBatch,

@@ -6,6 +6,7 @@ use Rattle.sk_lex.specs.declared.token.Token.{Token}
 use Rattle.sk_lex.specs.declared.token.Word.{Word}
 use Rattle.sk_lex.specs.declared.token.Word.TheVariants as word
 use Rattle.sk_rows.specs.declared.statement.Statement.{Statement}
+use Rattle.sk_lex.specs.Marks as mark
 use Rattle.sk_parse.specs.declared.fault.ParseFault.{ParseFault}
 use Rattle.sk_parse.specs.declared.fault.ParseFault.TheVariants as parse
 use Rattle.sk_parse.specs.Input.{Outcome}
@@ -108,7 +109,7 @@ colon_missing n (c ∷ ts) end none = by (is_mark 58 c.word) refl
     by true is = absurd (none (mark_word 58 c.word is))
     by false is = refl
 
-behind_colon : (t c : Token) (ts : List Token) (n end place : ℕ) → session_of t.word ≡ Some n → c.word ≡ word.Mark 58 0 → FailsAt (said n ts end) place → FailsAt (body (t ∷ c ∷ ts) end) place
+behind_colon : (t c : Token) (ts : List Token) (n end place : ℕ) → session_of t.word ≡ Some n → c.word ≡ word.Mark mark.colon mark.none → FailsAt (said n ts end) place → FailsAt (body (t ∷ c ∷ ts) end) place
 unfolding body
 behind_colon t c ts n end place session colon is =
     ap (λ o. by_command o t (c ∷ ts) end) (no_command t.word n session)

@@ -7,6 +7,7 @@ use Rattle.sk_lex.specs.declared.token.Token.{Token}
 use Rattle.sk_lex.specs.declared.token.Word.{Word}
 use Rattle.sk_lex.specs.declared.token.Word.TheVariants as word
 use Rattle.sk_rows.specs.declared.statement.Statement.{Statement}
+use Rattle.sk_lex.specs.Marks as mark
 use Rattle.sk_parse.specs.declared.fault.ParseFault.{ParseFault}
 use Rattle.sk_parse.specs.declared.fault.ParseFault.TheVariants as parse
 use Rattle.sk_parse.specs.Statements.{statement}
@@ -25,7 +26,7 @@ abbrev pub place_or : {A : Type 0} → ℕ → Result A ParseFault → ℕ
 place_or d (Err (parse.Unexpected place)) = place
 place_or d _ = d
 
-no_colon : (w : Word) → is_mark 58 w ≡ false → ¬ (w ≡ word.Mark 58 0)
+no_colon : (w : Word) → is_mark 58 w ≡ false → ¬ (w ≡ word.Mark mark.colon mark.none)
 no_colon w at is = let bad : true ≡ false = ap (is_mark 58) (sym is) ∙ at in absurd cc
 
 says_err : (n : ℕ) (r : Result Statement ParseFault) (place : ℕ) → FailsAt (says n r) place → FailsAt r place
@@ -50,7 +51,7 @@ alone_err n us end [] place (Ok what) at is = absurd cc
 alone_err n us end (v ∷ ts) place (Ok what) at is = inr (what, v, ts, sym at, refl, ap (place_or 0) is)
 alone_err n us end rest place (Err f) at is = let same : Err f ≡ Err (parse.Unexpected place) = cc in inl (phrase_fault n us end place (sym at ∙ same))
 
-said_fault : (t c : Token) (ts : List Token) (n end place : ℕ) → session_of t.word ≡ Some n → c.word ≡ word.Mark 58 0 → FailsAt (said n ts end) place → BodyFault end (t ∷ c ∷ ts) place
+said_fault : (t c : Token) (ts : List Token) (n end place : ℕ) → session_of t.word ≡ Some n → c.word ≡ word.Mark mark.colon mark.none → FailsAt (said n ts end) place → BodyFault end (t ∷ c ∷ ts) place
 unfolding closed
 said_fault t c ts n end place session colon is = by (first_mark ts)
   where

@@ -12,6 +12,7 @@ use Rattle.sk_lex.specs.declared.token.Word.{Word}
 use Rattle.sk_lex.specs.declared.token.Word.TheVariants as word
 use Rattle.sk_rows.specs.declared.statement.Statement.{Statement}
 use Rattle.sk_rows.specs.declared.statement.Statement.TheVariants as st
+use Rattle.sk_lex.specs.Marks as mark
 use Rattle.sk_parse.specs.declared.fault.ParseFault.{ParseFault}
 use Rattle.sk_parse.specs.Places.{words}
 use Rattle.sk_parse.specs.Saying.{Says}
@@ -141,7 +142,7 @@ phrase_words n ts end what is = by (begins_step ts) refl is
         subst (IsSaid n (words ts)) found.2 (IsSaid.statement (words ts) found.0 (answered ts end (Ok found.0) found.1))
 
 abbrev IsLineOf : ℕ → List Token → Line → Type 0
-IsLineOf n ts what = IsBody (word.Number n ∷ word.Mark 58 0 ∷ words ts) what
+IsLineOf n ts what = IsBody (word.Number n ∷ word.Mark mark.colon mark.none ∷ words ts) what
 
 said_words : (n : ℕ) → IsSession n → (ts : List Token) (end : ℕ) (what : Line) → said n ts end ≡ Ok what → IsLineOf n ts what
 unfolding closed
@@ -152,11 +153,11 @@ said_words n session ts end what is = by (first_mark ts)
     by (inr c) =
         let found : closed n c.before c.mark.from c.rest ≡ Ok what = sym (said_closed n c.before c.mark c.rest end c.inside c.ends) ∙ ap (λ us. said n us end) (sym c.split) ∙ is in
         let parts = alone_ok (phrase n c.before c.mark.from) c.rest what found in
-        let last : words (c.mark ∷ c.rest) ≡ word.Mark 59 0 ∷ [] =
+        let last : words (c.mark ∷ c.rest) ≡ word.Mark mark.semicolon mark.none ∷ [] =
         ap (λ rest. words (c.mark ∷ rest)) parts.0 ∙ ap (λ w. w ∷ []) (mark_word 59 c.mark.word (is_semicolon c.mark.word c.ends)) in
-        let all : words ts ≡ words c.before ++ word.Mark 59 0 ∷ [] =
+        let all : words ts ≡ words c.before ++ word.Mark mark.semicolon mark.none ∷ [] =
         ap words c.split ∙ map-append (λ (t : Token). t.word) c.before (c.mark ∷ c.rest) ∙ ap (λ l. words c.before ++ l) last in
-        subst (λ ws. IsBody (word.Number n ∷ word.Mark 58 0 ∷ ws) what) (sym all)
+        subst (λ ws. IsBody (word.Number n ∷ word.Mark mark.colon mark.none ∷ ws) what) (sym all)
         (IsBody.closed n (words c.before) what session (phrase_words n c.before c.mark.from what parts.1))
 
 behind_words : (n : ℕ) → IsSession n → (ts : List Token) (end : ℕ) (what : Line) → behind_session n ts end ≡ Ok what → IsBody (word.Number n ∷ words ts) what
@@ -259,7 +260,7 @@ phrase_read n ts end _ _ is (IsSaid.statement us s said) =
 session_is : (n : ℕ) → IsSession n → session_of (word.Number n) ≡ Some n
 session_is n session = rw (le-leb 1 n session.0, le-leb n 64 session.1) refl
 
-session_read : (n : ℕ) → IsSession n → (t c : Token) (ts : List Token) (end : ℕ) (what : Line) → t.word ≡ word.Number n → c.word ≡ word.Mark 58 0 → said n ts end ≡ Ok what
+session_read : (n : ℕ) → IsSession n → (t c : Token) (ts : List Token) (end : ℕ) (what : Line) → t.word ≡ word.Number n → c.word ≡ word.Mark mark.colon mark.none → said n ts end ≡ Ok what
     → body (t ∷ c ∷ ts) end ≡ Ok what
 unfolding body
 session_read n session t c ts end what number colon is =
@@ -274,7 +275,7 @@ two_words v w ws [] is = absurd cc
 two_words v w ws (t ∷ []) is = absurd cc
 two_words v w ws (t ∷ c ∷ us) is = (t, c, us, refl, cc, cc, cc)
 
-closed_read : (n : ℕ) (us : List Token) (mark : Token) (end : ℕ) (ws : List Word) (what : Line) → words us ≡ ws → IsSaid n ws what → mark.word ≡ word.Mark 59 0 → said n (us ++ mark ∷ []) end ≡ Ok what
+closed_read : (n : ℕ) (us : List Token) (mark : Token) (end : ℕ) (ws : List Word) (what : Line) → words us ≡ ws → IsSaid n ws what → mark.word ≡ word.Mark mark.semicolon mark.none → said n (us ++ mark ∷ []) end ≡ Ok what
 unfolding closed
 closed_read n us mark end ws what is says at =
     said_closed n us mark [] end (phrase_open n us ws what is says) (ap goes at)
@@ -291,15 +292,15 @@ command_alone w what command ts end is =
 
 pub body_read : (ws : List Word) (what : Line) → IsBody ws what → (ts : List Token) (end : ℕ) → words ts ≡ ws → body ts end ≡ Ok what
 body_read _ _ (IsBody.plain n us what session says) ts end is =
-    let two = two_words (word.Number n) (word.Mark 58 0) us ts is in
+    let two = two_words (word.Number n) (word.Mark mark.colon mark.none) us ts is in
     ap (λ l. body l end) two.3
     ∙ session_read n session two.0 two.1 two.2 end what two.4 two.5 (said_plain n two.2 end (phrase_open n two.2 us what two.6 says) ∙ phrase_read n two.2 end us what two.6 says)
 body_read _ _ IsBody.flush ts end is = command_alone (word.Key key.Flush) line.Flush refl ts end is
 body_read _ _ IsBody.stop ts end is = command_alone (word.Key key.Stop) line.Stop refl ts end is
 body_read _ _ (IsBody.closed n us what session says) ts end is =
-    let two = two_words (word.Number n) (word.Mark 58 0) (us ++ word.Mark 59 0 ∷ []) ts is in
-    let cut = split_words us (word.Mark 59 0 ∷ []) two.2 two.6 in
-    let last = one_word (word.Mark 59 0) cut.1 cut.4 in
+    let two = two_words (word.Number n) (word.Mark mark.colon mark.none) (us ++ word.Mark mark.semicolon mark.none ∷ []) ts is in
+    let cut = split_words us (word.Mark mark.semicolon mark.none ∷ []) two.2 two.6 in
+    let last = one_word (word.Mark mark.semicolon mark.none) cut.1 cut.4 in
     let all : two.2 ≡ cut.0 ++ last.0 ∷ [] = cut.2 ∙ ap (λ l. cut.0 ++ l) last.1 in
     ap (λ l. body l end) two.3
     ∙ session_read n session two.0 two.1 two.2 end what two.4 two.5 (ap (λ l. said n l end) all ∙ closed_read n cut.0 last.0 end us what cut.3 says last.2)

@@ -12,6 +12,7 @@ use Rattle.sk_rows.specs.declared.value.Sort.{Sort}
 use Rattle.sk_rows.specs.declared.value.Sort.TheVariants as sorts
 use Rattle.sk_rows.specs.Catalog.{are_columns, are_named, has_bool_key, has_column, is_bool}
 use Rattle.sk_rows.specs.Names.{is_name}
+use Rattle.sk_lex.specs.Marks as mark
 use Rattle.sk_parse.specs.declared.cursor.Sign.TheVariants as sign
 use Rattle.sk_parse.specs.Input.{Input, ◌>>=◌, after, pure, refuse, sees}
 use Rattle.sk_script.specs.Header.{column, column_name, columns, columns_from, is_bool_key, named, new_column, sort}
@@ -116,7 +117,7 @@ good_turn false n cs i p later good e = subst AreGood (same_value cs i p e) good
 good_from : (n : ℕ) (cs : List Column) (i : Input) (p : List Column × Input) → AreGood cs → columns_from n cs i ≡ Ok p → AreGood p.0
 unfolding columns_from
 good_from zero cs i p good e = subst AreGood (same_value cs i p e) good
-good_from (suc n) cs i p good e = good_turn (sees (sign.Mark 44 0) i) n cs (after (sign.Mark 44 0) i) p (λ c rest. good_from n (cs ++ c ∷ []) rest p) good e
+good_from (suc n) cs i p good e = good_turn (sees (sign.Mark mark.comma mark.none) i) n cs (after (sign.Mark mark.comma mark.none) i) p (λ c rest. good_from n (cs ++ c ∷ []) rest p) good e
 
 good_columns : (i : Input) (p : List Column × Input) → columns i ≡ Ok p → AreGood p.0
 unfolding columns

@@ -14,6 +14,7 @@ use Rattle.sk_rows.specs.declared.statement.SetItem.{SetItem}
 use Rattle.sk_rows.specs.declared.statement.Statement.{Statement}
 use Rattle.sk_rows.specs.declared.statement.Statement.TheVariants as st
 use Rattle.sk_rows.specs.declared.value.Value.{Value}
+use Rattle.sk_lex.specs.Marks as mark
 use Rattle.sk_parse.specs.declared.terms.Level.{Level}
 use Rattle.sk_parse.specs.declared.terms.Level.TheVariants as level
 use Rattle.sk_parse.specs.Rules.{Derives, IsLiteral, Rule}
@@ -109,7 +110,7 @@ derived_free _ _ _ _ (Derives.comp_two n us w vs o a b d at e) =
     both us (w ∷ vs) (derived_free _ _ _ _ d) (one w vs (comparison_goes w o at) (derived_free _ _ _ _ e))
 derived_free _ _ _ _ (Derives.atom_literal n ws v is) = literal_free ws v is
 derived_free _ _ _ _ (Derives.atom_name n t is) = refl
-derived_free _ _ _ _ (Derives.atom_parens n ws a d) = both ws (word.Mark 41 0 ∷ []) (derived_free _ _ _ _ d) refl
+derived_free _ _ _ _ (Derives.atom_parens n ws a d) = both ws (word.Mark mark.close_paren mark.none ∷ []) (derived_free _ _ _ _ d) refl
 
 expr_free : (ws : List Word) (e : Expr) → IsExpr ws e → AreFree ws
 expr_free ws e is = derived_free _ _ ws e is
@@ -119,7 +120,7 @@ expr_free ws e is = derived_free _ _ ws e is
 more_free : {A : Type 0} (Item : List Word → A → Type 0) → ((ws : List Word) (x : A) → Item ws x → AreFree ws) → (xs : List A) (ws : List Word) → AreMore Item ws xs → AreFree ws
 more_free Item each [] ws is = same_free ws [] is refl
 more_free Item each (x ∷ xs) ws is =
-    same_free ws (word.Mark 44 0 ∷ is.0 ++ is.1) is.2 (both is.0 is.1 (each is.0 x is.3) (more_free Item each xs is.1 is.4))
+    same_free ws (word.Mark mark.comma mark.none ∷ is.0 ++ is.1) is.2 (both is.0 is.1 (each is.0 x is.3) (more_free Item each xs is.1 is.4))
 
 listed_free : {A : Type 0} (Item : List Word → A → Type 0) → ((ws : List Word) (x : A) → Item ws x → AreFree ws) → (xs : List A) (ws : List Word) → AreListed Item ws xs → AreFree ws
 listed_free Item each [] ws is = absurd is
@@ -138,19 +139,19 @@ name_free : (ws : List Word) (t : List ℕ) → IsName ws t → AreFree ws
 name_free ws t is = same_free ws (word.Name t ∷ []) is.0 refl
 
 shown_free : (ws : List Word) (c : Option (List (List ℕ))) → AreShown ws c → AreFree ws
-shown_free ws None is = same_free ws (word.Mark 42 0 ∷ []) is refl
+shown_free ws None is = same_free ws (word.Mark mark.star mark.none ∷ []) is refl
 shown_free ws (Some names) is = listed_free IsName name_free names ws is
 
 set_free : (ws : List Word) (item : SetItem) → IsSet ws item → AreFree ws
-set_free ws item is = same_free ws (word.Name item.column ∷ word.Mark 61 0 ∷ is.0) is.1 (expr_free is.0 item.value is.3)
+set_free ws item is = same_free ws (word.Name item.column ∷ word.Mark mark.equals mark.none ∷ is.0) is.1 (expr_free is.0 item.value is.3)
 
 pub said_free : (ws : List Word) (s : Statement) → Says ws s → AreFree ws
 said_free ws (st.Begin b) is = same_free ws (word.Key key.Begin ∷ is.0) is.1 (begun_free is.0 b is.2)
 said_free ws st.Commit is = same_free ws (word.Key key.Commit ∷ []) is refl
 said_free ws st.Rollback is = same_free ws (word.Key key.Rollback ∷ []) is refl
 said_free ws (st.Insert t values) is =
-    same_free ws (word.Key key.Insert ∷ word.Key key.Into ∷ word.Name t ∷ word.Key key.Values ∷ word.Mark 40 0 ∷ is.0 ++ word.Mark 41 0 ∷ []) is.1
-    (both is.0 (word.Mark 41 0 ∷ []) (listed_free IsLiteral literal_free values is.0 is.3) refl)
+    same_free ws (word.Key key.Insert ∷ word.Key key.Into ∷ word.Name t ∷ word.Key key.Values ∷ word.Mark mark.open_paren mark.none ∷ is.0 ++ word.Mark mark.close_paren mark.none ∷ []) is.1
+    (both is.0 (word.Mark mark.close_paren mark.none ∷ []) (listed_free IsLiteral literal_free values is.0 is.3) refl)
 said_free ws (st.Select t columns c) is =
     same_free ws (word.Key key.Select ∷ is.0 ++ word.Key key.From ∷ word.Name t ∷ is.1) is.2
     (both is.0 (word.Key key.From ∷ word.Name t ∷ is.1) (shown_free is.0 columns is.3) (where_free is.1 c is.5))

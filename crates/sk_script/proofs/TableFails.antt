@@ -9,6 +9,7 @@ use Rattle.sk_rows.specs.declared.table.Column.{Column}
 use Rattle.sk_rows.specs.declared.table.Table.{Table}
 use Rattle.sk_rows.specs.declared.value.Sort.{Sort}
 use Rattle.sk_rows.specs.declared.value.Sort.TheVariants as sorts
+use Rattle.sk_lex.specs.Marks as mark
 use Rattle.sk_parse.specs.declared.cursor.Sign.TheVariants as sign
 use Rattle.sk_parse.specs.Input.{Input, Outcome, ◌>>=◌, after, and_then, next, pure, refuse, sees, take_some}
 use Rattle.sk_parse.specs.Places.{words}
@@ -61,16 +62,16 @@ ended_fails x w i = by (suc (length i) == 0) refl
     by true at = let bad : suc (length i) ≡ 0 = grind (arith, nat_tests) in absurd (omega arith)
     by false at = refl
 
-no_comma : (v : Token) (ts : List Token) → ¬ (v.word ≡ word.Mark 44 0) → sees (sign.Mark 44 0) (words (v ∷ ts)) ≡ false
-no_comma v ts other = by (sees (sign.Mark 44 0) (words (v ∷ ts))) refl
+no_comma : (v : Token) (ts : List Token) → ¬ (v.word ≡ word.Mark mark.comma mark.none) → sees (sign.Mark mark.comma mark.none) (words (v ∷ ts)) ≡ false
+no_comma v ts other = by (sees (sign.Mark mark.comma mark.none) (words (v ∷ ts))) refl
   where
-    by : (b : Bool) → sees (sign.Mark 44 0) (words (v ∷ ts)) ≡ b → b ≡ false
+    by : (b : Bool) → sees (sign.Mark mark.comma mark.none) (words (v ∷ ts)) ≡ b → b ≡ false
     by true at = absurd (other (comma v ts at))
     by false at = refl
 
-some_comma : (v : Token) (ts : List Token) → v.word ≡ word.Mark 44 0 → sees (sign.Mark 44 0) (words (v ∷ ts)) ≡ true
+some_comma : (v : Token) (ts : List Token) → v.word ≡ word.Mark mark.comma mark.none → sees (sign.Mark mark.comma mark.none) (words (v ∷ ts)) ≡ true
 unfolding sees
-some_comma v ts at = ap (λ w. sees (sign.Mark 44 0) (w ∷ words ts)) at
+some_comma v ts at = ap (λ w. sees (sign.Mark mark.comma mark.none) (w ∷ words ts)) at
 
 -- it fails where the tokens have this place
 abbrev pub Left : {A : Type 0} → ℕ → List Token → ℕ → Outcome A → Type 0
@@ -86,13 +87,13 @@ module _ (end : ℕ) (name : List ℕ) (store : Bool) where
   abbrev more_from : ℕ → List Column → List Token → Outcome Table
   more_from n cs ts = and_then (and_then (column cs (words ts)) (λ c. columns_from n (cs ++ c ∷ []))) finish
 
-  turn_ends : (n : ℕ) (cs : List Column) (v : Token) (ts : List Token) → ¬ (v.word ≡ word.Mark 44 0) → list_from (suc n) cs (v ∷ ts) ≡ Err (length (words (v ∷ ts)))
+  turn_ends : (n : ℕ) (cs : List Column) (v : Token) (ts : List Token) → ¬ (v.word ≡ word.Mark mark.comma mark.none) → list_from (suc n) cs (v ∷ ts) ≡ Err (length (words (v ∷ ts)))
   unfolding columns_from after
   turn_ends n cs v ts other =
       ap (λ b. and_then (cond b (column cs >>= (λ c. columns_from n (cs ++ c ∷ []))) (pure cs) (cond b (next (words (v ∷ ts))) (words (v ∷ ts)))) finish) (no_comma v ts other)
       ∙ ended_fails (made name store cs) v.word (words ts)
 
-  turn_goes : (n : ℕ) (cs : List Column) (v : Token) (ts : List Token) → v.word ≡ word.Mark 44 0 → list_from (suc n) cs (v ∷ ts) ≡ more_from n cs ts
+  turn_goes : (n : ℕ) (cs : List Column) (v : Token) (ts : List Token) → v.word ≡ word.Mark mark.comma mark.none → list_from (suc n) cs (v ∷ ts) ≡ more_from n cs ts
   unfolding columns_from after
   turn_goes n cs v ts at =
       ap (λ b. and_then (cond b (column cs >>= (λ c. columns_from n (cs ++ c ∷ []))) (pure cs) (cond b (next (words (v ∷ ts))) (words (v ∷ ts)))) finish) (some_comma v ts at)

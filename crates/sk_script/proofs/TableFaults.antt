@@ -9,6 +9,7 @@ use Rattle.sk_rows.specs.declared.table.Column.{Column}
 use Rattle.sk_rows.specs.declared.table.Table.{Table}
 use Rattle.sk_rows.specs.declared.value.Sort.{Sort}
 use Rattle.sk_rows.specs.declared.value.Sort.TheVariants as sorts
+use Rattle.sk_lex.specs.Marks as mark
 use Rattle.sk_parse.specs.declared.cursor.Sign.TheVariants as sign
 use Rattle.sk_parse.specs.Input.{Input, Outcome, ◌>>=◌, after, and_then, next, pure, refuse, sees, take_some}
 use Rattle.sk_parse.specs.Places.{words}
@@ -67,8 +68,8 @@ column_view end cs (t ∷ ts) = by (new_column cs t.word) refl
 -- ---- behind a column
 
 data Behind (end : ℕ) (cs : List Column) : List Token → ℕ → Type 0 where
-  ends : (v : Token) (ts : List Token) → ¬ (v.word ≡ word.Mark 44 0) → Behind end cs (v ∷ ts) (v.from + 1)
-  more : (v : Token) (ts : List Token) (place : ℕ) → v.word ≡ word.Mark 44 0 → ColumnFault end cs ts place → Behind end cs (v ∷ ts) place
+  ends : (v : Token) (ts : List Token) → ¬ (v.word ≡ word.Mark mark.comma mark.none) → Behind end cs (v ∷ ts) (v.from + 1)
+  more : (v : Token) (ts : List Token) (place : ℕ) → v.word ≡ word.Mark mark.comma mark.none → ColumnFault end cs ts place → Behind end cs (v ∷ ts) place
 
 behind_fault : (end : ℕ) (cs : List Column) (t u : Token) (c : Column) → IsColumnAt cs t u c → (ts : List Token) (place : ℕ) → Behind end (cs ++ c ∷ []) ts place → ColumnFault end cs (t ∷ u ∷ ts) place
 behind_fault end cs t u c is _ _ (Behind.ends v ts other) = ColumnFault.behind cs t u v ts c is other
@@ -89,14 +90,14 @@ ended_err x w i k is = by (suc (length i) == 0) refl is
     by true at e = let bad : suc (length i) ≡ 0 = grind (arith, nat_tests) in absurd (omega arith)
     by false at e = sym cc
 
-no_comma : (v : Token) (ts : List Token) → sees (sign.Mark 44 0) (words (v ∷ ts)) ≡ false → ¬ (v.word ≡ word.Mark 44 0)
+no_comma : (v : Token) (ts : List Token) → sees (sign.Mark mark.comma mark.none) (words (v ∷ ts)) ≡ false → ¬ (v.word ≡ word.Mark mark.comma mark.none)
 unfolding sees
 no_comma v ts at is =
-    let bad : true ≡ false = ap (λ w. sees (sign.Mark 44 0) (w ∷ words ts)) (sym is) ∙ at in
+    let bad : true ≡ false = ap (λ w. sees (sign.Mark mark.comma mark.none) (w ∷ words ts)) (sym is) ∙ at in
     absurd cc
 
-pub comma : (v : Token) (ts : List Token) → sees (sign.Mark 44 0) (words (v ∷ ts)) ≡ true → v.word ≡ word.Mark 44 0
-comma v ts at = let e = mark_at 44 0 (words (v ∷ ts)) at in cc
+pub comma : (v : Token) (ts : List Token) → sees (sign.Mark mark.comma mark.none) (words (v ∷ ts)) ≡ true → v.word ≡ word.Mark mark.comma mark.none
+comma v ts at = let e = mark_at mark.comma mark.none (words (v ∷ ts)) at in cc
 
 pub length_words : (ts : List Token) → length (words ts) ≡ length ts
 length_words [] = refl
@@ -115,9 +116,9 @@ module _ (end : ℕ) (name : List ℕ) (store : Bool) where
   unfolding columns_from after
   loop n found [] le k is = absurd (none_left n found k is)
   loop zero found (v ∷ ts) le k is = absurd (omega arith)
-  loop (suc n) found (v ∷ ts) le k is = by (sees (sign.Mark 44 0) (words (v ∷ ts))) refl is (loop n)
+  loop (suc n) found (v ∷ ts) le k is = by (sees (sign.Mark mark.comma mark.none) (words (v ∷ ts))) refl is (loop n)
     where
-      on : v.word ≡ word.Mark 44 0 → (o : Outcome Column) → View end found ts o → and_then (and_then o (λ c. columns_from n (found ++ c ∷ []))) finish ≡ Err k
+      on : v.word ≡ word.Mark mark.comma mark.none → (o : Outcome Column) → View end found ts o → and_then (and_then o (λ c. columns_from n (found ++ c ∷ []))) finish ≡ Err k
           → ((longer : List Column) (rest : List Token) → length rest ≤ n → (k : ℕ) → and_then (columns_from n longer (words rest)) finish ≡ Err k → At (Behind end longer) end rest k)
           → At (Behind end found) end (v ∷ ts) k
       on at _ (View.fails us vs split f) e ih = (v ∷ us, vs, ap (λ l. v ∷ l) split, sym (ap (err_or 0) e), Behind.more v ts (place_of end vs) at f)
@@ -131,7 +132,7 @@ module _ (end : ℕ) (name : List ℕ) (store : Bool) where
             Behind.more v ts (place_of end r.1) at (subst (λ l. ColumnFault end found l (place_of end r.1)) (sym split) (behind_fault end found t u c is_column rest (place_of end r.1) r.4)),
           )
 
-      by : (b : Bool) → sees (sign.Mark 44 0) (words (v ∷ ts)) ≡ b
+      by : (b : Bool) → sees (sign.Mark mark.comma mark.none) (words (v ∷ ts)) ≡ b
           → and_then (cond b (column found >>= (λ c. columns_from n (found ++ c ∷ []))) (pure found) (cond b (next (words (v ∷ ts))) (words (v ∷ ts)))) finish ≡ Err k
           → ((longer : List Column) (rest : List Token) → length rest ≤ n → (k : ℕ) → and_then (columns_from n longer (words rest)) finish ≡ Err k → At (Behind end longer) end rest k)
           → At (Behind end found) end (v ∷ ts) k

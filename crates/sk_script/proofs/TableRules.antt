@@ -16,6 +16,7 @@ use Rattle.sk_rows.specs.declared.value.Sort.{Sort}
 use Rattle.sk_rows.specs.declared.value.Sort.TheVariants as sorts
 use Rattle.sk_rows.specs.Catalog.{add_fault, are_columns, are_named, has_bool_key, has_column, has_table as has_name, is_bool}
 use Rattle.sk_rows.specs.Names.{is_name}
+use Rattle.sk_lex.specs.Marks as mark
 use Rattle.sk_parse.specs.declared.cursor.Sign.TheVariants as sign
 use Rattle.sk_parse.specs.Input.{Input, ◌>>=◌, after, and_then, next, pure, refuse, sees, take_some}
 use Rattle.sk_parse.specs.Saying.{AreListed, AreMore}
@@ -80,9 +81,9 @@ no_more found i cs r is = let end = same found cs i r is in ([], [], sym end.0 �
 more_words : (n : ℕ) (found : List Column) (i : Input) (cs : List Column) (r : Input) → Gave (columns_from n found i) cs r → More found i cs r
 unfolding columns_from after
 more_words zero found i cs r is = no_more found i cs r is
-more_words (suc n) found i cs r is = by (sees (sign.Mark 44 0) i) refl is (more_words n)
+more_words (suc n) found i cs r is = by (sees (sign.Mark mark.comma mark.none) i) refl is (more_words n)
   where
-    by : (t : Bool) → sees (sign.Mark 44 0) i ≡ t
+    by : (t : Bool) → sees (sign.Mark mark.comma mark.none) i ≡ t
         → Gave (cond t (column found >>= (λ c. columns_from n (found ++ c ∷ []))) (pure found) (cond t (next i) i)) cs r
         → ((longer : List Column) (j : Input) (ys : List Column) (q : Input) → Gave (columns_from n longer j) ys q → More longer j ys q)
         → More found i cs r
@@ -92,9 +93,9 @@ more_words (suc n) found i cs r is = by (sees (sign.Mark 44 0) i) refl is (more_
         let item = column_words found (next i) a.1 a.0 a.2 in
         let rest = ih (found ++ a.0 ∷ []) a.1 cs r a.3 in (
           a.0 ∷ rest.0,
-          word.Mark 44 0 ∷ item.0 ++ rest.1,
+          word.Mark mark.comma mark.none ∷ item.0 ++ rest.1,
           rest.2 ∙ append_assoc found (a.0 ∷ []) rest.0,
-          mark_at 44 0 i at ∙ ap (λ z. word.Mark 44 0 ∷ z) (item.1 ∙ ap (λ z. item.0 ++ z) rest.3 ∙ sym (append_assoc item.0 rest.1 r)),
+          mark_at mark.comma mark.none i at ∙ ap (λ z. word.Mark mark.comma mark.none ∷ z) (item.1 ∙ ap (λ z. item.0 ++ z) rest.3 ∙ sym (append_assoc item.0 rest.1 r)),
           (item.0, rest.1, refl, item.2, rest.4),
         )
 
@@ -185,7 +186,7 @@ key_free d found sorts.Text = refl
 key_free d found sorts.Bool = refl
 
 one_turn : (n : ℕ) (found : List Column) (i : Input) (c : Column) (r : Input) → Gave (column found i) c r
-    → columns_from (suc n) found (word.Mark 44 0 ∷ i) ≡ columns_from n (found ++ c ∷ []) r
+    → columns_from (suc n) found (word.Mark mark.comma mark.none ∷ i) ≡ columns_from n (found ++ c ∷ []) r
 unfolding columns_from after sees
 one_turn n found i c r is = ap (λ out. and_then out (λ c. columns_from n (found ++ c ∷ []))) is
 
@@ -195,7 +196,7 @@ more_read [] ws is n d found few named short = subst (λ z. Gave (columns_from n
 more_read (c ∷ cs) ws is zero d found few named short = let e = ap length is.2 in absurd (omega arith)
 more_read (c ∷ cs) ws is (suc n) d found few named short =
     let i : Input = word.Name c.name ∷ word.Key (sort_key c.sort) ∷ is.1 in
-    let words : ws ≡ word.Mark 44 0 ∷ i = is.2 ∙ ap (λ z. word.Mark 44 0 ∷ z ++ is.1) is.3 in
+    let words : ws ≡ word.Mark mark.comma mark.none ∷ i = is.2 ∙ ap (λ z. word.Mark mark.comma mark.none ∷ z ++ is.1) is.3 in
     let new = named_at (d ∷ found) c cs named in
     let room : length (d ∷ found) < 16 = let e = length-append (d ∷ found) (c ∷ cs) in omega arith in
     let read = column_read (d ∷ found) c is.1 new.0 room new.1 (key_free d found c.sort) in

@@ -4,9 +4,9 @@ use Rattle.std.specs.List.{list_all}
 use Rattle.std.specs.Str.{bytes_eq}
 
 -- a word that may name a directory: not empty, and without `-` in front
-unfoldable pub is_place : List ℕ → Bool
-is_place [] = false
-is_place (b ∷ bs) = not (b == 45)
+unfoldable pub is_directory : List ℕ → Bool
+is_directory [] = false
+is_directory (b ∷ bs) = not (b == 45)
 
 -- ---- numbers
 
@@ -42,11 +42,11 @@ both _ _ = None
 -- the seed and the number of transfers, where the words are `gen SEED N DIR`
 unfoldable pub transfers_of : List (List ℕ) → Option (ℕ × ℕ)
 transfers_of (first ∷ seed ∷ count ∷ last ∷ []) =
-    if bytes_eq first (codes "gen") && is_place last then both (number_to 65536 seed) (number_to 100000 count) else None
+    if bytes_eq first (codes "gen") && is_directory last then both (number_to 65536 seed) (number_to 100000 count) else None
 transfers_of _ = None
 
 -- the last word, where the words are `run DIR` or `gen SEED N DIR`
 unfoldable pub place : List (List ℕ) → Option (List ℕ)
-place (first ∷ last ∷ []) = if bytes_eq first (codes "run") && is_place last then Some last else None
+place (first ∷ last ∷ []) = if bytes_eq first (codes "run") && is_directory last then Some last else None
 place (first ∷ seed ∷ count ∷ last ∷ []) = if is_some (transfers_of (first ∷ seed ∷ count ∷ last ∷ [])) then Some last else None
 place _ = None

@@ -12,9 +12,9 @@ const MOST_SEED: u32 = 65_536;
 /// The most transfers that a script is generated of.
 const MOST_TRANSFERS: u32 = 100_000;
 
-#[tactic(auto, unfolding(crate::specs::Words::is_place))]
-fn is_place(word: &[u8]) -> bool
-    ensures { result ≡ spec.is_place word.now }
+#[tactic(auto, unfolding(crate::specs::Words::is_directory))]
+fn is_directory(word: &[u8]) -> bool
+    ensures { result ≡ spec.is_directory word.now }
 {
     match word {
         [] => false,
@@ -91,10 +91,11 @@ pub fn transfers_of(words: &[String]) -> Option<(u32, u32)>
     ensures exact { result ≡ spec.transfers_of (map string_bytes words.now) }
 {
     match words {
-        [first, seed, count, last] if first.as_str() == "gen" && is_place(last.as_bytes()) => both(
-            number_to(MOST_SEED, seed.as_bytes()),
-            number_to(MOST_TRANSFERS, count.as_bytes()),
-        ),
+        [first, seed, count, last] if first.as_str() == "gen" && is_directory(last.as_bytes()) =>
+            both(
+                number_to(MOST_SEED, seed.as_bytes()),
+                number_to(MOST_TRANSFERS, count.as_bytes()),
+            ),
         _ => None,
     }
 }
@@ -105,7 +106,7 @@ pub fn place(words: &[String]) -> Option<&str>
     ensures exact { option_copied result ≡ spec.place (map string_bytes words.now) }
 {
     match words {
-        [first, last] if first.as_str() == "run" && is_place(last.as_bytes()) => Some(
+        [first, last] if first.as_str() == "run" && is_directory(last.as_bytes()) => Some(
             last.as_str(),
         ),
         [_, _, _, last] if transfers_of(words).is_some() => Some(last.as_str()),

@@ -7,8 +7,5 @@ use Rattle.sk_device.specs.Disk.{Image}
 use Rattle.sk_recover.specs.Opened.{IsOpenedAs, IsSound}
 use Rattle.sk_durable.specs.Growing.{OpensOver}
 
-pub opening_rows : (o : Opened) → IsSound o → AreOpeningRows o.catalog o.rows
-opening_rows o sound = record { count = sound.count; ordered = sound.ordered; fit = sound.fit }
-
 pub opens_over : (o : Opened) (image : Image) → IsOpenedAs o image → OpensOver o.catalog image
 opens_over o image is = record { opening = is.opening; stands = is.stands; is_catalog = sym is.is.catalog }

@@ -47,10 +47,6 @@ abbrev pub IsCutAt : Bool → List Came → List ScriptLine → List ScriptLine 
 IsCutAt false came left rest = left ≡ rest
 IsCutAt true came left rest = StopsAt left ⊎ HasBroken came
 
-pub cut_at_end : (ended : Bool) (came : List Came) (left rest : List ScriptLine) → IsCutAt ended came left rest → rest ≡ [] → IsCutOff ended came left
-cut_at_end false came left rest h none = h ∙ none
-cut_at_end true came left rest h none = h
-
 -- one more was played, and where the run has ended by that the disk has failed
 cut_more : (ended : Bool) (came : List Came) (c : Came) (rest : List ScriptLine) → (ended ≡ true → HasBroken (c ∷ [])) → IsCutAt ended (came ++ c ∷ []) rest rest
 cut_more false came c rest broken = refl
@@ -195,17 +191,6 @@ module _ {D : Type 0} (disk : Disk D) (mem : MemEngine → EngineTable → List 
   pub so_far_over : (old now : Now D) (all : List ScriptLine) (l : ScriptLine) (rest : List ScriptLine) (ended : Bool) → ended ≡ true → SoFar old all now ended (l ∷ rest) → SoFar old all now ended rest
   so_far_over old now all l rest false over f = absurd (cc)
   so_far_over old now all l rest true over f = record { played = f.played; left = f.left; lines_are = f.lines_are; came = f.came; of = f.of; cut_at = f.cut_at; plays = f.plays }
-
-  pub plays_all : (old new : Now D) (all rest : List ScriptLine) (ended : Bool) → SoFar old all new ended rest → rest ≡ [] → PlaysAll disk mem store old all new ended
-  plays_all old new all rest ended f none = record {
-    played = f.played;
-    left = f.left;
-    lines_are = f.lines_are;
-    came = f.came;
-    of = f.of;
-    cut_off = cut_at_end ended f.came f.left rest f.cut_at none;
-    plays = f.plays;
-  }
 
   -- a line that is played, or passed where the run has ended
   pub so_far_step : (old before new : Now D) (all : List ScriptLine) (l : ScriptLine) (rest : List ScriptLine) (was ended : Bool) → SoFar old all before was (l ∷ rest)

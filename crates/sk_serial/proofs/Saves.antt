@@ -52,11 +52,6 @@ module _ {D : Type 0} (disk : Disk D) (faults : D → ℕ) where
   err_grows disk_of (Ok x) old mid same is = tt
   err_grows disk_of (Err h) old mid same is = grows_same old (disk_of h) (is ∙ same)
 
-  -- a refusal behind calls by which the store only grew
-  pub err_then : {X H : Type 0} (disk_of : H → D) (r : Result X H) (old mid : D) → Grows disk faults old mid → IfErr r (λ h. Grows disk faults mid (disk_of h)) → IfErr r (λ h. Grows disk faults old (disk_of h))
-  err_then disk_of (Ok x) old mid first grows = tt
-  err_then disk_of (Err h) old mid first grows = grows_then old mid (disk_of h) first grows
-
   -- what is handed out of a store is kept
   pub is_kept : (old last : Kept D) (receipts : List Receipt) (cut : Point) (broken : Bool) (now : D) → Saves disk faults old last → now ≡ last.disk → receipts ≡ last.receipts → cut ≡ last.cut → broken ≡ last.broken
       → (last.broken ≡ false → IsTrue disk.tells → AllAt disk (as_cut last.cut) last.ends last.disk) → IsKept disk faults old receipts cut broken now

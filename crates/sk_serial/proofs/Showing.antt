@@ -1,7 +1,7 @@
 -- What a disk shows goes on with each flush.
 use Rattle.std.specs.Prelude.{◌≡◌, ◌≢◌, ◌⊎◌, ◌==◌, ◌&&◌, Bool, true, false, List, [], ◌∷◌, ◌++◌, IsTrue}
 use Rattle.std.proofs.Common.{refl, sym, ap, subst, ◌∙◌, inl, inr, ⊎_elim, arith}
-use Rattle.std.proofs.lemmas.Bool.{eq-eqb}
+use Rattle.std.proofs.lemmas.Bool.{eq-eqb, false_from_ne_true}
 use Rattle.std.proofs.Common.{eqb-true}
 use Rattle.std.proofs.lemmas.List.{append-nil, append_assoc}
 use Rattle.std.proofs.lemmas.Grind.{flat_map-append}
@@ -33,7 +33,6 @@ use Rattle.sk_run.specs.Told.{RunLine}
 use Rattle.sk_run.specs.Kept.{Beginning, HasKept}
 use Rattle.sk_run.specs.Flushing.{SameNumbers, IsFlush, FindsNothing, FindsFlush, FindsBatch, KeepsStill}
 use Rattle.sk_run.specs.declared.flushing.Found.{Found}
-use Rattle.sk_serial.proofs.Totals.{is_false}
 use Rattle.sk_serial.specs.Saving.{Saved, saved_in}
 use Rattle.sk_serial.specs.Showing.{Holds, HoldsFront, GrowsBy, Shows, IsStill, Appends, HasSaved, SavesOn, batch_of}
 
@@ -174,7 +173,7 @@ module _ {D : Type 0} (disk : Disk D) where
       → (same_cut batch.cut old.cut ≡ true → refused.Flush e ≡ refused.Flush fault.NoMemory) → (refused.Flush e ≢ refused.Flush fault.Device → new ≡ old) → (e ≡ fault.Device → new.broken ≡ true) → new.cut ≡ old.cut
       → IsStill old new ⊎ Appends disk old batch new
   wrote_err old new batch fault.Device at_most equal refused broken cut =
-      let differs : same_cut batch.cut old.cut ≡ false = is_false (same_cut batch.cut old.cut) (λ is. let g = equal is in cc) in
+      let differs : same_cut batch.cut old.cut ≡ false = false_from_ne_true (same_cut batch.cut old.cut) (λ is. let g = equal is in cc) in
       inr (record {
         unlike = differs;
         moments = λ tells. at_most tells differs;

@@ -82,13 +82,6 @@ module _ {D : Type 0} (disk : Disk D) (faults : D → ℕ) where
 
   -- ---- a script that was not played to its end
 
-  pub halts_before : (script : Script) (generated : Bool) (was now : D) (fault : RunFault) → HasNotBegun disk faults script generated was fault now → HasHalted disk faults script generated was fault now
-  halts_before script generated was now fault h = record {
-    why = h.why;
-    lasts = λ tells. lasts_opened disk (tables_in script) (start_of script) was now (h.moments tells);
-    later = h.later;
-  }
-
   -- memory was wanting, and the store only grew
   pub halts_starved : (script : Script) (generated : Bool) (was begun now : D) (opened : Opened) (fault : RunFault) → StartsFrom disk faults script generated was opened begun → Grows disk faults begun now → fault ≡ run_fault.NoMemory
       → HasHalted disk faults script generated was fault now

@@ -19,7 +19,7 @@ use Rattle.sk_session.specs.declared.live.At.{At}
 use Rattle.sk_session.specs.declared.live.At.TheVariants as at
 use Rattle.sk_session.specs.declared.live.Moved.{Moved}
 use Rattle.sk_session.specs.declared.session.Session.{Session}
-use Rattle.sk_session.specs.Moving.{record_now, with_last, place_of, label_after, begun, begins, TakesAt, StartsAt, drops, first_opened, leave_at}
+use Rattle.sk_session.specs.Moving.{record_now, with_last, record_begun, label_after, begun, begins, TakesAt, StartsAt, drops, first_opened, leave_at}
 use Rattle.sk_session.specs.Starting.{Starts, Takes, Leaves, moved_to}
 use Rattle.sk_session.specs.EachTalk.{LastLive, HasTalks, IsOrderly, AnswerFits, has_begun, IsBetween}
 use Rattle.sk_session.specs.Facts.{Facts, facts_of, facts_taken, last_changed, BegunFacts, TakeFacts, StartFacts, LeaveFacts, OpensBy, OpensAt, TakeOpens, IsOpening, StartOpens}
@@ -32,8 +32,8 @@ use Rattle.sk_session.proofs.Recorded.{with_last_seam}
 -- ---- the last record
 
 -- the facts where the last record is this one
-pub last_facts : (front : List Record) (place r : Record) → map facts_of (with_last (front ++ place ∷ []) r) ≡ map facts_of front ++ facts_of r ∷ []
-last_facts front place r = ap (map facts_of) (with_last_seam front place r) ∙ map-append facts_of front (r ∷ [])
+pub last_facts : (front : List Record) (open_record r : Record) → map facts_of (with_last (front ++ open_record ∷ []) r) ≡ map facts_of front ++ facts_of r ∷ []
+last_facts front open_record r = ap (map facts_of) (with_last_seam front open_record r) ∙ map-append facts_of front (r ∷ [])
 
 change_seam : (change : Facts → Facts) (fs : List Facts) (f : Facts) → last_changed change (fs ++ f ∷ []) ≡ fs ++ change f ∷ []
 change_seam change [] f = refl
@@ -56,10 +56,10 @@ module _ (catalog : List Table) (number : ℕ) (records : List Record) (got : Go
   changed live label talk change last l are is =
       ap (map facts_of) are
       ∙ ap (λ rs. map facts_of (with_last rs last)) l.records_are
-      ∙ last_facts l.front l.place last
+      ∙ last_facts l.front l.open_record last
       ∙ ap (λ f. map facts_of l.front ++ f ∷ []) is
       ∙ sym (change_seam change (map facts_of l.front) (live_facts live))
-      ∙ ap (last_changed change) (sym (last_facts l.front l.place (record_now live)))
+      ∙ ap (last_changed change) (sym (last_facts l.front l.open_record (record_now live)))
       ∙ ap (λ rs. last_changed change (map facts_of (with_last rs (record_now live)))) (sym l.records_are)
 
   answered : (there : At) → TakesAt catalog records there got moved → HasTalks catalog number records there talks → IsOrderly there → AnswerFits there got
@@ -90,14 +90,14 @@ module _ (number : ℕ) (records : List Record) where
   outside_facts : (moved : Moved) → BeginsOrRests number records moved → Starting number records at.Outside moved.records moved.at
   unfolding begins
   outside_facts moved (inl (kind, small, s, is)) =
-      subst (λ (m : Moved). Starting number records at.Outside m.records m.at) (sym is) (kind, last_facts records (place_of (label_after number records) kind) (record_now (begun (label_after number records) kind small s)))
+      subst (λ (m : Moved). Starting number records at.Outside m.records m.at) (sym is) (kind, last_facts records (record_begun (label_after number records) kind) (record_now (begun (label_after number records) kind small s)))
   outside_facts moved (inr (same, inl is)) = subst (λ rs. Starting number records at.Outside rs moved.at) (sym same) (subst (Starting number records at.Outside records) (sym is) refl)
   outside_facts moved (inr (same, inr is)) = subst (λ rs. Starting number records at.Outside rs moved.at) (sym same) (subst (Starting number records at.Outside records) (sym is) refl)
 
   ended_facts : (moved : Moved) → BeginsOrRests number records moved → Starting number records at.Ended moved.records moved.at
   unfolding begins
   ended_facts moved (inl (kind, small, s, is)) =
-      subst (λ (m : Moved). Starting number records at.Ended m.records m.at) (sym is) (kind, last_facts records (place_of (label_after number records) kind) (record_now (begun (label_after number records) kind small s)))
+      subst (λ (m : Moved). Starting number records at.Ended m.records m.at) (sym is) (kind, last_facts records (record_begun (label_after number records) kind) (record_now (begun (label_after number records) kind small s)))
   ended_facts moved (inr (same, inl is)) = subst (λ rs. Starting number records at.Ended rs moved.at) (sym same) (subst (Starting number records at.Ended records) (sym is) refl)
   ended_facts moved (inr (same, inr is)) = subst (λ rs. Starting number records at.Ended rs moved.at) (sym same) (subst (Starting number records at.Ended records) (sym is) refl)
 

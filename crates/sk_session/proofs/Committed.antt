@@ -2,6 +2,7 @@
 use Rattle.std.specs.Prelude.{◌≡◌, ℕ, ◌<◌, List, [], ◌∷◌, ◌++◌, Option, Some, None, Bool, true, false, cond, ◌||◌, ◌⊎◌, IfSome, is_some}
 use Rattle.std.proofs.Common.{refl, sym, ap, subst, ◌∙◌, inl, inr, append-nil, append_assoc}
 use Rattle.std.specs.List.{list_any, AllByRecursion}
+use Rattle.std.proofs.lemmas.Bool.{or_parts}
 use Rattle.sk_rows.specs.declared.table.Table.{Table}
 use Rattle.sk_rows.specs.declared.statement.Statement.{Statement}
 use Rattle.sk_rows.specs.declared.statement.Statement.TheVariants as statement
@@ -177,10 +178,6 @@ module _ (catalog : List Table) (live : Live) (c : Committing) (own : Option Rep
 
 -- ---- its statements
 
-parts : (x y : Bool) → (x || y) ≡ false → (x ≡ false) × (y ≡ false)
-parts false y e = (refl, e)
-parts true y e = absurd cc
-
 not_an_end : (r : Record) (said : Reply) (s : Statement) → is_end s ≡ false → EndReplyTo r said s
 not_an_end r said statement.Commit e = absurd cc
 not_an_end r said statement.Rollback e = absurd cc
@@ -218,7 +215,7 @@ commit_lost NoMemory e = refl
 
 pub all_replied : (r : Record) (said : List Said) (last : List Said) → AllByRecursion (λ (s : Said). is_last s ≡ false) said → AllByRecursion (EndReply r) last → AllByRecursion (EndReply r) (said ++ last)
 all_replied r [] last going h = h
-all_replied r (x ∷ said) last going h = (not_an_end r x.reply x.statement (parts (is_lost x.reply) (is_end x.statement) going.0).1, all_replied r said last going.1 h)
+all_replied r (x ∷ said) last going h = (not_an_end r x.reply x.statement (or_parts (is_lost x.reply) (is_end x.statement) going.0).1, all_replied r said last going.1 h)
 
 abbrev LostSo : Record → List Said → Type 0
 LostSo r said = AllByRecursion (λ (s : Said). is_lost s.reply ≡ true → r.ending ≡ lost_ending s.reply) said
@@ -226,7 +223,7 @@ LostSo r said = AllByRecursion (λ (s : Said). is_lost s.reply ≡ true → r.en
 pub all_lost : (r : Record) (said : List Said) (last : List Said) → AllByRecursion (λ (s : Said). is_last s ≡ false) said → LostSo r last → LostSo r (said ++ last)
 all_lost r [] last going h = h
 all_lost r (x ∷ said) last going h =
-    let kept : is_lost x.reply ≡ false = (parts (is_lost x.reply) (is_end x.statement) going.0).0 in
+    let kept : is_lost x.reply ≡ false = (or_parts (is_lost x.reply) (is_end x.statement) going.0).0 in
     ((λ l. absurd (cc (l, kept))), all_lost r said last going.1 h)
 
 module _ (catalog : List Table) (live : Live) (c : Committing) (talk more : Talk) (end : CommitEnd) (h : HasEnded c end (talk_of c ++ more)) where

@@ -108,19 +108,19 @@ module _ (catalog : List Table) (records : List Record) where
       still : (k : TxKind) → IsOpen live (first_engine k) → IsOpen (says live s) (first_engine k)
       still k is = on_engine (first_engine k) is
 
-  table_said : (live : Live) (s : Statement) (moved : Moved) → InsideTable catalog records live s moved → HasStill live moved
-  table_said live s moved (inl is) = same_move is (starve_has _ _ _ records live)
-  table_said live s moved (inr is) = says_has live s moved (either_has _ _ _ records _ _ _ moved is (inside_has live s) (starve_has _ _ _ records (says live s)))
+  inside_has_still : (live : Live) (s : Statement) (moved : Moved) → InsideTable catalog records live s moved → HasStill live moved
+  inside_has_still live s moved (inl is) = same_move is (starve_has _ _ _ records live)
+  inside_has_still live s moved (inr is) = says_has live s moved (either_has _ _ _ records _ _ _ moved is (inside_has live s) (starve_has _ _ _ records (says live s)))
 
   pub inside_said : (live : Live) (s : Option Statement) (moved : Moved) → StartsInside catalog records live s moved → HasStill live moved
   inside_said live None moved is = same_move is (commits_has _ _ _ records live _ _)
   inside_said live (Some (statement.Begin begun)) moved is = same_move is (stays_has live err.InTransaction)
   inside_said live (Some statement.Commit) moved is = same_move is (says_has live statement.Commit _ (commits_has _ _ _ records (says live statement.Commit) _ _))
   inside_said live (Some statement.Rollback) moved is = same_move is (says_has live statement.Rollback _ (give_up_has _ _ _ records (says live statement.Rollback) _ _ _))
-  inside_said live (Some (statement.Insert table values)) moved is = table_said live (statement.Insert table values) moved is
-  inside_said live (Some (statement.Select table names c)) moved is = table_said live (statement.Select table names c) moved is
-  inside_said live (Some (statement.Update table sets c)) moved is = table_said live (statement.Update table sets c) moved is
-  inside_said live (Some (statement.Delete table c)) moved is = table_said live (statement.Delete table c) moved is
+  inside_said live (Some (statement.Insert table values)) moved is = inside_has_still live (statement.Insert table values) moved is
+  inside_said live (Some (statement.Select table names c)) moved is = inside_has_still live (statement.Select table names c) moved is
+  inside_said live (Some (statement.Update table sets c)) moved is = inside_has_still live (statement.Update table sets c) moved is
+  inside_said live (Some (statement.Delete table c)) moved is = inside_has_still live (statement.Delete table c) moved is
 
   pub stepping_said : (live : Live) (c : Committing) (s : Option Statement) → HasFacts at.Outside unasked (Unit {0}) records (live_facts live) (start_stepping records live c s)
   stepping_said live c None = asks_has _ _ _ records live (job.Commit c false None) _ (λ g. tt) (λ g. tt)

@@ -23,7 +23,7 @@ use Rattle.sk_session.specs.declared.live.Live.{Live}
 use Rattle.sk_session.specs.declared.live.At.TheVariants as at
 use Rattle.sk_session.specs.declared.live.Moved.{Moved}
 use Rattle.sk_session.specs.Kept.{said_maybe}
-use Rattle.sk_session.specs.Moving.{snapshot_of, said_now, record_now, end_reply, give_up, says, starve, refuses, open_or_read, judged_at, judged_in, inside_by, inside, InsideTable, StartsInside, start_stepping, place_after}
+use Rattle.sk_session.specs.Moving.{snapshot_of, said_now, record_now, end_reply, give_up, says, starve, refuses, open_or_read, judged_at, judged_in, inside_by, inside, InsideTable, StartsInside, start_stepping, at_after}
 use Rattle.sk_session.specs.Printed.{seat_at, seat_inside, AddsOne, Adds, IsPlain, IsHeard, Hears, IsTold, Ends, Closes}
 use Rattle.sk_session.proofs.Recorded.{with_last_seam}
 use Rattle.sk_session.proofs.Judged.{word_kept}
@@ -66,9 +66,9 @@ step_ends live (CheckFailed point mem store) is = (ap (λ o. said_maybe (said_no
 step_ends live (Spent engine mem) is = (ap (λ o. said_maybe (said_now o (reply.Spent engine))) is, refl)
 step_ends live NoMemory is = (ap (λ o. said_maybe (said_now o (reply.Refused err.Memory))) is, refl)
 
-module _ (catalog : List Table) (front : List Record) (place : Record) (live : Live) (none : live.statement ≡ None) (declared : live.small ≡ false) where
+module _ (catalog : List Table) (front : List Record) (open_record : Record) (live : Live) (none : live.statement ≡ None) (declared : live.small ≡ false) where
   abbrev records : List Record
-  records = front ++ place ∷ []
+  records = front ++ open_record ∷ []
 
   by_commit : Closes Inside (Some statement.Commit) (says live statement.Commit) true None
   by_commit = ((λ no. absurd cc), λ end. commit_ends (says live statement.Commit) end refl)
@@ -77,31 +77,31 @@ module _ (catalog : List Table) (front : List Record) (place : Record) (live : L
   by_step = ((λ no. (refl, refl, none, declared)), λ end. step_ends live end none)
 
   -- a refusal for where the session stands
-  refused_here : (s : Statement) (word : ErrWord) → uses_label Inside (reply.Refused word) ≡ false → seat_inside (Some s) (reply.Refused word) ≡ Inside → Goes Inside (Some s) front place live.said (refuses records (at.Inside live) word)
+  refused_here : (s : Statement) (word : ErrWord) → uses_label Inside (reply.Refused word) ≡ false → seat_inside (Some s) (reply.Refused word) ≡ Inside → Goes Inside (Some s) front open_record live.said (refuses records (at.Inside live) word)
   refused_here s word unused stays = record {
     last = record_now live;
     part = [];
-    are = with_last_seam front place (record_now live);
+    are = with_last_seam front open_record (record_now live);
     says = refl;
     adds = unused_adds Inside s (reply.Refused word) unused;
     stands = sym stays;
-    clear = (none, declared, (front, place, refl));
+    clear = (none, declared, (front, open_record, refl));
   }
 
-  paused_here : (c : Committing) (s : Statement) → seat_inside (Some s) (reply.Refused err.Committing) ≡ Inside → Goes Inside (Some s) front place live.said (refuses records (at.Stepping live c) err.Committing)
+  paused_here : (c : Committing) (s : Statement) → seat_inside (Some s) (reply.Refused err.Committing) ≡ Inside → Goes Inside (Some s) front open_record live.said (refuses records (at.Stepping live c) err.Committing)
   paused_here c s stays = record {
     last = record_now live;
     part = [];
-    are = with_last_seam front place (record_now live);
+    are = with_last_seam front open_record (record_now live);
     says = refl;
     adds = refl;
     stands = sym stays;
-    clear = (none, declared, (front, place, refl));
+    clear = (none, declared, (front, open_record, refl));
   }
 
   module _ (s : Statement) (plain : IsPlain s) where
     abbrev ToIt : Moved → Type 0
-    ToIt moved = Goes Inside (Some s) front place live.said moved
+    ToIt moved = Goes Inside (Some s) front open_record live.said moved
 
     abbrev new : Live
     new = says live s
@@ -112,17 +112,17 @@ module _ (catalog : List Table) (front : List Record) (place : Record) (live : L
     -- memory was wanted for the statement itself
     unheard : ToIt (starve records live)
     unfolding starve
-    unheard = give_up_goes Inside (Some s) front place live _ (reply.Refused err.Memory) (not live.small) (
+    unheard = give_up_goes Inside (Some s) front open_record live _ (reply.Refused err.Memory) (not live.small) (
       inr (refl, ap (λ o. said_maybe (said_now o (reply.Refused err.Memory))) none),
-      ap (λ b. seat_at (place_after (not b))) declared ∙ sym (lost_inside s plain),
+      ap (λ b. seat_at (at_after (not b))) declared ∙ sym (lost_inside s plain),
     )
 
     told_goes : (word : ErrWord) → IsTold Inside (reply.Refused word) → ToIt (inside_by catalog records new (Err word))
-    told_goes word told = say_goes Inside (Some s) front place new (reply.Refused word) hears told
+    told_goes word told = say_goes Inside (Some s) front open_record new (reply.Refused word) hears told
 
     opens_or_reads : (o : Option ℕ) → ToIt (open_or_read catalog records new o)
     opens_or_reads None = (refl, refl, hears)
-    opens_or_reads (Some n) = read_for_goes Inside (Some s) front place catalog new hears
+    opens_or_reads (Some n) = read_for_goes Inside (Some s) front open_record catalog new hears
 
     used : (e : EngineName) (b : Bool) → ToIt (inside_by catalog records new (if b then Ok e else Err err.Engine))
     used e true = opens_or_reads (snapshot_of new e)
@@ -138,20 +138,20 @@ module _ (catalog : List Table) (front : List Record) (place : Record) (live : L
 
     heard_table : (moved : Moved) → InsideTable catalog records live s moved → ToIt moved
     heard_table moved (inl is) = subst ToIt (sym is) unheard
-    heard_table moved (inr is) = either_goes Inside (Some s) front place live.said (inside catalog records new) (starve records new) moved is (tabled (table_named catalog s)) (starve_goes Inside (Some s) front place new hears)
+    heard_table moved (inr is) = either_goes Inside (Some s) front open_record live.said (inside catalog records new) (starve records new) moved is (tabled (table_named catalog s)) (starve_goes Inside (Some s) front open_record new hears)
 
-  pub hears_inside : (o : Option Statement) (moved : Moved) → StartsInside catalog records live o moved → Goes Inside o front place live.said moved
-  hears_inside None moved is = subst (Goes Inside None front place live.said) (sym is) (refl, refl, by_step)
-  hears_inside (Some (statement.Begin begun)) moved is = subst (Goes Inside (Some (statement.Begin begun)) front place live.said) (sym is) (refused_here (statement.Begin begun) err.InTransaction refl refl)
-  hears_inside (Some statement.Commit) moved is = subst (Goes Inside (Some statement.Commit) front place live.said) (sym is) (refl, refl, by_commit)
+  pub hears_inside : (o : Option Statement) (moved : Moved) → StartsInside catalog records live o moved → Goes Inside o front open_record live.said moved
+  hears_inside None moved is = subst (Goes Inside None front open_record live.said) (sym is) (refl, refl, by_step)
+  hears_inside (Some (statement.Begin begun)) moved is = subst (Goes Inside (Some (statement.Begin begun)) front open_record live.said) (sym is) (refused_here (statement.Begin begun) err.InTransaction refl refl)
+  hears_inside (Some statement.Commit) moved is = subst (Goes Inside (Some statement.Commit) front open_record live.said) (sym is) (refl, refl, by_commit)
   hears_inside (Some statement.Rollback) moved is =
-      subst (Goes Inside (Some statement.Rollback) front place live.said) (sym is) (give_up_goes Inside (Some statement.Rollback) front place (says live statement.Rollback) _ reply.RolledBack false (inl refl, refl))
+      subst (Goes Inside (Some statement.Rollback) front open_record live.said) (sym is) (give_up_goes Inside (Some statement.Rollback) front open_record (says live statement.Rollback) _ reply.RolledBack false (inl refl, refl))
   hears_inside (Some (statement.Insert table values)) moved is = heard_table (statement.Insert table values) (refl, refl) moved is
   hears_inside (Some (statement.Select table names e)) moved is = heard_table (statement.Select table names e) (refl, refl) moved is
   hears_inside (Some (statement.Update table sets e)) moved is = heard_table (statement.Update table sets e) (refl, refl) moved is
   hears_inside (Some (statement.Delete table e)) moved is = heard_table (statement.Delete table e) (refl, refl) moved is
 
-  pub hears_stepping : (c : Committing) (o : Option Statement) → Goes Inside o front place live.said (start_stepping records live c o)
+  pub hears_stepping : (c : Committing) (o : Option Statement) → Goes Inside o front open_record live.said (start_stepping records live c o)
   hears_stepping c None = (refl, refl, by_step)
   hears_stepping c (Some statement.Commit) = (refl, refl, by_commit)
   hears_stepping c (Some statement.Rollback) = paused_here c statement.Rollback refl
@@ -162,16 +162,16 @@ module _ (catalog : List Table) (front : List Record) (place : Record) (live : L
   hears_stepping c (Some (statement.Delete table e)) = paused_here c (statement.Delete table e) refl
 
   -- the session is left
-  pub left_inside : Goes Inside None front place live.said (give_up records live ending.RolledBack reply.RolledBack false)
-  left_inside = give_up_goes Inside None front place live ending.RolledBack reply.RolledBack false (ap (λ o. said_maybe (said_now o reply.RolledBack)) none, refl)
+  pub left_inside : Goes Inside None front open_record live.said (give_up records live ending.RolledBack reply.RolledBack false)
+  left_inside = give_up_goes Inside None front open_record live ending.RolledBack reply.RolledBack false (ap (λ o. said_maybe (said_now o reply.RolledBack)) none, refl)
 
-  pub left_stepping : (c : Committing) → Goes Inside None front place live.said (refuses records (at.Stepping live c) err.Committing)
+  pub left_stepping : (c : Committing) → Goes Inside None front open_record live.said (refuses records (at.Stepping live c) err.Committing)
   left_stepping c = record {
     last = record_now live;
     part = [];
-    are = with_last_seam front place (record_now live);
+    are = with_last_seam front open_record (record_now live);
     says = refl;
     adds = refl;
     stands = refl;
-    clear = (none, declared, (front, place, refl));
+    clear = (none, declared, (front, open_record, refl));
   }

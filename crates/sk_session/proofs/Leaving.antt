@@ -2,6 +2,7 @@
 use Rattle.std.specs.Prelude.{◌≡◌, ℕ, List, [], ◌∷◌, ◌++◌, Option, Some, None, Bool, true, false, ◌||◌, IfSome, is_some}
 use Rattle.std.proofs.Common.{refl, sym, ap, subst, ◌∙◌, inl, append-nil, append_assoc}
 use Rattle.std.specs.List.{AllByRecursion}
+use Rattle.std.proofs.lemmas.Bool.{or_parts}
 use Rattle.sk_rows.specs.declared.table.Table.{Table}
 use Rattle.sk_rows.specs.declared.statement.Statement.{Statement}
 use Rattle.sk_rows.specs.declared.statement.Statement.TheVariants as statement
@@ -63,10 +64,6 @@ given_up_fails : (how : Ending) → is_given_up how ≡ true → is_committed ho
 given_up_fails ending.Committed e = absurd cc
 given_up_fails _ e = refl
 
-parts : (x y : Bool) → (x || y) ≡ false → (x ≡ false) × (y ≡ false)
-parts false y e = (refl, e)
-parts true y e = absurd cc
-
 -- a statement that is not the last has no reply that ends the transaction
 not_an_end : (r : Record) (said : Reply) (s : Statement) → is_end s ≡ false → EndReplyTo r said s
 not_an_end r said statement.Commit e = absurd cc
@@ -86,13 +83,13 @@ LostSo r said = AllByRecursion (λ (s : Said). is_lost s.reply ≡ true → r.en
 replied : (r : Record) (said : List Said) (now : Option Statement) (last : Reply) → AllByRecursion (λ (s : Said). is_last s ≡ false) said → LastFits r.ending last now → Replied r (said ++ said_maybe (said_now now last))
 replied r [] None last going fits = tt
 replied r [] (Some s) last going fits = (fits.0 r refl, tt)
-replied r (x ∷ said) now last going fits = (not_an_end r x.reply x.statement (parts (is_lost x.reply) (is_end x.statement) going.0).1, replied r said now last going.1 fits)
+replied r (x ∷ said) now last going fits = (not_an_end r x.reply x.statement (or_parts (is_lost x.reply) (is_end x.statement) going.0).1, replied r said now last going.1 fits)
 
 lost_so : (r : Record) (said : List Said) (now : Option Statement) (last : Reply) → AllByRecursion (λ (s : Said). is_last s ≡ false) said → LastFits r.ending last now → LostSo r (said ++ said_maybe (said_now now last))
 lost_so r [] None last going fits = tt
 lost_so r [] (Some s) last going fits = (fits.1, tt)
 lost_so r (x ∷ said) now last going fits =
-    let kept : is_lost x.reply ≡ false = (parts (is_lost x.reply) (is_end x.statement) going.0).0 in
+    let kept : is_lost x.reply ≡ false = (or_parts (is_lost x.reply) (is_end x.statement) going.0).0 in
     ((λ l. absurd (cc (l, kept))), lost_so r said now last going.1 fits)
 
 none_past : (P : ℕ → Type 0) (n : Option ℕ) → n ≡ None → IfSome n P

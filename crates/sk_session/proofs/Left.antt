@@ -24,7 +24,7 @@ use Rattle.sk_session.specs.declared.session.Session.{Session}
 use Rattle.sk_session.specs.Moving.{says, commits, starve, Either, is_begin, begins, label_after, engine_kind, judged_outside, InsideTable, StartsInside, OutsideTable, StartsOutside, start_stepping, start_ended, refuses, StartsAt, leave_at}
 use Rattle.sk_session.specs.Speaks.{Stands, Commits, Pauses, Keeps, BegunAt, StartKept, LeaveKept}
 use Rattle.sk_session.specs.Starting.{Starts, Leaves, moved_to}
-use Rattle.sk_session.proofs.Standing.{commit_keeps, left_behind, rolled_back, give_up_keeps}
+use Rattle.sk_session.proofs.GivenUp.{commit_keeps, left_behind, rolled_back, give_up_keeps}
 use Rattle.sk_session.proofs.Opening.{inside_keeps, begins_keep, small_keeps, judges}
 
 -- a statement comes to a commit under way

@@ -10,7 +10,7 @@ pub mod Going
 pub mod Opening
 -- a transaction that is given up, and one that commits
 pub mod Leaving
-pub mod Standing
+pub mod GivenUp
 pub mod Committed
 pub mod Keeping
 -- each call of a session keeps the calls of its transaction

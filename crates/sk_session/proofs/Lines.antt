@@ -30,7 +30,7 @@ use Rattle.sk_session.specs.declared.live.At.{At}
 use Rattle.sk_session.specs.declared.live.At.TheVariants as at
 use Rattle.sk_session.specs.declared.live.Moved.{Moved}
 use Rattle.sk_session.specs.Kept.{said_maybe}
-use Rattle.sk_session.specs.Moving.{said_now, record_of, record_now, place_after, finish, drops, first_opened, give_up, lose, lose_by, starve, goes_well, closes, heard, hears, say, put_at, put_next, read_now, read_by, read_for, behind_open, answer_in, answer_now, answer_by, rows_come, fault_at_read, commits, end_reply, is_begin, Either}
+use Rattle.sk_session.specs.Moving.{said_now, record_of, record_now, at_after, finish, drops, first_opened, give_up, lose, lose_by, starve, goes_well, closes, heard, hears, say, put_at, put_next, read_now, read_by, read_for, behind_open, answer_in, answer_now, answer_by, rows_come, fault_at_read, commits, end_reply, is_begin, Either}
 use Rattle.sk_session.specs.SoFar.{so_far}
 use Rattle.sk_session.specs.Printed.{seat_at, seat_inside, seat_outside, seat_after, AddsOne, Adds, IsClear, IsPlain, IsHeard, Hears, IsTold, Ends, Closes, JobFits}
 use Rattle.sk_session.proofs.Recorded.{with_last_seam}
@@ -78,19 +78,19 @@ adds_now : (seat : Seat) (live : Live) (s : Statement) (r : Reply) → live.stat
 adds_now seat live s r is used = adds_used seat s r _ used (ap (λ o. said_maybe (said_now o r)) is)
 
 -- a statement that is lost
-pub lost_ends : (seat : Seat) (o : Option Statement) (live : Live) (r : Reply) → Hears seat o live → is_lost r ≡ true → Ends seat o r live (place_after (not live.small))
+pub lost_ends : (seat : Seat) (o : Option Statement) (live : Live) (r : Reply) → Hears seat o live → is_lost r ≡ true → Ends seat o r live (at_after (not live.small))
 lost_ends seat o live r (is, h) lost = by seat live.small o is h
   where
-    by : (seat : Seat) (small : Bool) (x : Option Statement) → live.statement ≡ x → IsHeard seat small x → Ends seat x r live (place_after (not small))
+    by : (seat : Seat) (small : Bool) (x : Option Statement) → live.statement ≡ x → IsHeard seat small x → Ends seat x r live (at_after (not small))
     by Outside true (Some s) is plain = (adds_now Outside live s r is (lost_used r lost).0, sym (outside_plain s r plain))
     by Outside false (Some s) is begins = (adds_now Outside live s r is (lost_used r lost).0, sym (outside_begin s r begins ∙ ap (λ b. cond b Ended Inside) lost))
     by Inside false (Some s) is plain = (adds_now Inside live s r is (lost_used r lost).1, sym (inside_plain s r plain ∙ ap (λ b. cond b Ended Inside) lost))
     by _ _ _ is h = absurd h
 
-module _ (seat : Seat) (o : Option Statement) (front : List Record) (place : Record) where
-  -- the last record is the place of the transaction
+module _ (seat : Seat) (o : Option Statement) (front : List Record) (open_record : Record) where
+  -- the last record is that of the transaction
   abbrev pub all : List Record
-  all = front ++ place ∷ []
+  all = front ++ open_record ∷ []
 
   -- it waits for an answer, and has been answered this before
   abbrev pub Waiting : List Said → List Record → At → Type 0
@@ -118,15 +118,15 @@ module _ (seat : Seat) (o : Option Statement) (front : List Record) (place : Rec
   either_goes said x y moved (inl is) px py = subst (Goes said) (sym is) px
   either_goes said x y moved (inr is) px py = subst (Goes said) (sym is) py
 
-  pub finish_goes : (live : Live) (how : Ending) (r : Reply) (lost : Bool) → Ends seat o r live (place_after lost) → Goes live.said (finish all live how r lost)
-  finish_goes live how r true e = record { last = record_of live how r; part = said_maybe (said_now live.statement r); are = with_last_seam front place (record_of live how r); says = refl; adds = e.0; stands = e.1; clear = tt }
-  finish_goes live how r false e = record { last = record_of live how r; part = said_maybe (said_now live.statement r); are = with_last_seam front place (record_of live how r); says = refl; adds = e.0; stands = e.1; clear = tt }
+  pub finish_goes : (live : Live) (how : Ending) (r : Reply) (lost : Bool) → Ends seat o r live (at_after lost) → Goes live.said (finish all live how r lost)
+  finish_goes live how r true e = record { last = record_of live how r; part = said_maybe (said_now live.statement r); are = with_last_seam front open_record (record_of live how r); says = refl; adds = e.0; stands = e.1; clear = tt }
+  finish_goes live how r false e = record { last = record_of live how r; part = said_maybe (said_now live.statement r); are = with_last_seam front open_record (record_of live how r); says = refl; adds = e.0; stands = e.1; clear = tt }
 
-  pub drops_goes : (live : Live) (e : Option EngineName) (how : Ending) (r : Reply) (lost : Bool) → Ends seat o r live (place_after lost) → Goes live.said (drops all live e how r lost)
+  pub drops_goes : (live : Live) (e : Option EngineName) (how : Ending) (r : Reply) (lost : Bool) → Ends seat o r live (at_after lost) → Goes live.said (drops all live e how r lost)
   drops_goes live None how r lost ends = finish_goes live how r lost ends
   drops_goes live (Some e) how r lost ends = (refl, refl, ends)
 
-  pub give_up_goes : (live : Live) (how : Ending) (r : Reply) (lost : Bool) → Ends seat o r live (place_after lost) → Goes live.said (give_up all live how r lost)
+  pub give_up_goes : (live : Live) (how : Ending) (r : Reply) (lost : Bool) → Ends seat o r live (at_after lost) → Goes live.said (give_up all live how r lost)
   give_up_goes live how r lost ends = drops_goes live (first_opened live) how r lost ends
 
   pub lose_goes : (live : Live) (how : Ending) (r : Reply) → Hears seat o live → is_lost r ≡ true → Goes live.said (lose all live how r)
@@ -172,11 +172,11 @@ module _ (seat : Seat) (o : Option Statement) (front : List Record) (place : Rec
   hears_goes live r (is, h) declared told = record {
     last = record_now (heard live r);
     part = said_maybe (said_now live.statement r);
-    are = with_last_seam front place (record_now (heard live r));
+    are = with_last_seam front open_record (record_now (heard live r));
     says = append-nil (live.said ++ said_maybe (said_now live.statement r));
     adds = (by seat o is (subst (λ b. IsHeard seat b o) declared h) told).0;
     stands = (by seat o is (subst (λ b. IsHeard seat b o) declared h) told).1;
-    clear = (refl, declared, (front, place, refl));
+    clear = (refl, declared, (front, open_record, refl));
   }
     where
       by : (x : Seat) (q : Option Statement) → live.statement ≡ q → IsHeard x false q → IsTold x r → Adds x q r (said_maybe (said_now live.statement r)) × (Inside ≡ seat_after x q r)

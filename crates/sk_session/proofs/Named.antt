@@ -10,12 +10,12 @@ use Rattle.sk_model.specs.Names.{columns_at, table_at}
 use Rattle.sk_model.specs.Replies.{target_table}
 use Rattle.sk_model.specs.Asking.{keeper_of, keeper, table_named}
 
--- what is told of the table at a place
+-- what is told of the table at a moment
 abbrev told : {X : Type 0} → (Table → X) → X → Option Table → X
 told f d None = d
 told f d (Some table) = f table
 
--- what is told of the table at a place
+-- what is told of the table at a moment
 told_at : {X : Type 0} (f : Table → X) (d : X) (catalog : List Table) (t : ℕ) (table : Table) → slice_get catalog t ≡ Some table → f table ≡ get_or (map f catalog) t d
 told_at f d [] t table is = absurd cc
 told_at f d (x ∷ catalog) zero table is = sym (ap (told f d) is)

@@ -30,7 +30,7 @@ use Rattle.sk_session.specs.declared.live.At.{At}
 use Rattle.sk_session.specs.declared.live.At.TheVariants as at
 use Rattle.sk_session.specs.declared.live.Moved.{Moved}
 use Rattle.sk_session.specs.declared.session.Session.{Session}
-use Rattle.sk_session.specs.Moving.{snapshot_of, end_reply, says, starve, begins, label_after, engine_kind, place_after, open_or_read, judged_at, judged_in, inside_by, inside, InsideTable, StartsInside, judged_outside_at, judged_outside_in, OutsideTable, StartsOutside, start_stepping, start_ended, StartsAt, TakesAt}
+use Rattle.sk_session.specs.Moving.{snapshot_of, end_reply, says, starve, begins, label_after, engine_kind, at_after, open_or_read, judged_at, judged_in, inside_by, inside, InsideTable, StartsInside, judged_outside_at, judged_outside_in, OutsideTable, StartsOutside, start_stepping, start_ended, StartsAt, TakesAt}
 use Rattle.sk_session.specs.Starting.{Starts, Takes, moved_to, fresh}
 use Rattle.sk_session.specs.EachTalk.{AnswerFits}
 use Rattle.sk_session.specs.Conversing.{Exchange, Exchanges, Replied}
@@ -295,9 +295,9 @@ module _ (catalog : List Table) (records : List Record) (live : Live) (declared 
     new = says live s
 
     -- memory was wanted
-    starved_fits : HereFits (place_after (not live.small)) (reply.Refused err.Memory)
+    starved_fits : HereFits (at_after (not live.small)) (reply.Refused err.Memory)
     starved_fits = (
-      ap (λ b. stand_at (place_after (not b))) declared ∙ sym (inside_leads live.kind s (reply.Refused err.Memory) true plain refl),
+      ap (λ b. stand_at (at_after (not b))) declared ∙ sym (inside_leads live.kind s (reply.Refused err.Memory) true plain refl),
       memory_obeys catalog (stand.Inside live.kind) (Some s) (table_refusal catalog (Some live.kind) s (table_named catalog s)) tt (inside_is catalog live.kind s plain) (table_words catalog (Some live.kind) s (table_named catalog s)),
     )
 
@@ -309,7 +309,7 @@ module _ (catalog : List Table) (records : List Record) (live : Live) (declared 
     in_replies : refusal_by catalog (stand.Inside live.kind) (Some s) ≡ None → Replies HereFits live.small live.kind
     in_replies free = record {
       lost = λ r l. (
-        ap (λ b. stand_at (place_after (not b))) declared ∙ sym (inside_leads live.kind s r true plain l),
+        ap (λ b. stand_at (at_after (not b))) declared ∙ sym (inside_leads live.kind s r true plain l),
         free_obeys catalog (stand.Inside live.kind) (Some s) r free tt (lost_used r l).0,
       );
       kept = λ is now same r told. (

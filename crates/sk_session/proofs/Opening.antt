@@ -28,7 +28,7 @@ use Rattle.sk_session.specs.Moving.{snapshot_of, Either, is_begin, begun, begins
 use Rattle.sk_session.specs.Speaks.{ReadsOf, Behind, Knows, IsOpen, Stands, Answering, Uses, BegunAt, Keeps}
 use Rattle.sk_session.proofs.Judged.{word_kept}
 use Rattle.sk_session.proofs.Waiting.{goes_on_so}
-use Rattle.sk_session.proofs.Standing.{knows_still}
+use Rattle.sk_session.proofs.GivenUp.{knows_still}
 use Rattle.sk_session.proofs.Saying.{starve_keeps, say_or_starve}
 use Rattle.sk_session.proofs.Going.{either_keeps, names_no_begin, reads_keep}
 

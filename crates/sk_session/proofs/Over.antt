@@ -1,6 +1,6 @@
 -- The records of transactions that are over stay: each move leaves all records, or replaces the last one as its transaction ends.
 use Rattle.std.specs.Prelude.{◌≡◌, ◌⊎◌, ℕ, ◌+◌, List, [], ◌∷◌, ◌++◌, Option, Some, None, Bool, true, false, cond, not, if◌then◌else◌, slice_get, Result, Ok, Err}
-use Rattle.std.proofs.Common.{refl, sym, ap, subst, ◌∙◌, inl, inr, append-nil, append_assoc}
+use Rattle.std.proofs.Common.{refl, sym, ap, subst, ◌∙◌, inl, inr, ⊎_elim}
 use Rattle.sk_rows.specs.declared.table.Table.{Table}
 use Rattle.sk_rows.specs.declared.value.Value.{Value}
 use Rattle.sk_rows.specs.declared.statement.Statement.{Statement}
@@ -36,10 +36,10 @@ use Rattle.sk_session.specs.declared.live.At.{At}
 use Rattle.sk_session.specs.declared.live.At.TheVariants as at
 use Rattle.sk_session.specs.declared.live.Moved.{Moved}
 use Rattle.sk_session.specs.declared.session.Session.{Session}
-use Rattle.sk_session.specs.Moving.{record_of, with_last, asks, finish, drops, first_opened, next_opened, give_up, lose, starve, goes_well, closes, hears, say, put_at, put_next, read_now, read_by, read_for, open_or_read, behind_open, answer_now, answer_by, rows_come, fault_at_read, inside_by, judged, inside, count_goes, open_goes, select_goes, read_goes, put_goes, went_on, commit_goes, goes, begins, place_of, label_after, says, Either, InsideTable, StartsInside, start_stepping, StartsAt, TakesAt, GoesAs, leave_at, noted}
+use Rattle.sk_session.specs.Moving.{record_of, with_last, asks, finish, drops, first_opened, next_opened, give_up, lose, starve, goes_well, closes, hears, say, put_at, put_next, read_now, read_by, read_for, open_or_read, behind_open, answer_now, answer_by, rows_come, fault_at_read, inside_by, judged, inside, count_goes, open_goes, select_goes, read_goes, put_goes, went_on, commit_goes, goes, begins, record_begun, label_after, says, Either, InsideTable, StartsInside, start_stepping, StartsAt, TakesAt, GoesAs, leave_at, noted}
 use Rattle.sk_session.specs.Starting.{Starts, Takes, Leaves, moved_to}
 use Rattle.sk_session.specs.Conversing.{Exchange, Exchanges, Replied}
-use Rattle.sk_session.specs.Over.{HasOver, AreOver, OverStays}
+use Rattle.sk_session.specs.Over.{HasOver, AreOver, Rests, OneMore, OverStays, RestsStill}
 use Rattle.sk_session.proofs.Orderly.{BeginsOrRests, resting_moves}
 use Rattle.sk_session.proofs.Recorded.{with_last_seam}
 
@@ -219,72 +219,132 @@ module _ (records : List Record) where
 
 -- ---- each call
 
--- these records are over there still, and perhaps more behind them
+-- these records are over there still, they alone or with one more
 abbrev Stays : List Record → List Record → At → Type 0
-Stays over records there = (more : List Record) × HasOver (over ++ more) records there
+Stays over records there = HasOver over records there ⊎ OneMore over records there
 
 -- where all of these are over, and the session rests there still
-rests_so : (over records now : List Record) (there : At) → records ≡ over → now ≡ records → (there ≡ at.Outside) ⊎ (there ≡ at.Ended) → Stays over now there
-rests_so over records now there are same (inl is) = ([], subst (HasOver (over ++ []) now) (sym is) (same ∙ are ∙ sym (append-nil over)))
-rests_so over records now there are same (inr is) = ([], subst (HasOver (over ++ []) now) (sym is) (same ∙ are ∙ sym (append-nil over)))
+rests_so : (over records now : List Record) (there : At) → records ≡ over → now ≡ records → Rests there → Stays over now there
+rests_so over records now there are same (inl is) = inl (subst (HasOver over now) (sym is) (same ∙ are))
+rests_so over records now there are same (inr is) = inl (subst (HasOver over now) (sym is) (same ∙ are))
 
 -- where a transaction is live
-lives_so : (over records now : List Record) (there : At) (place : Record) → records ≡ over ++ place ∷ [] → place.ending ≡ ending.Open → ComesOf records now there → Stays over now there
-lives_so over records now at.Outside place are is (last, come) = (last ∷ [], come ∙ ap (λ rs. with_last rs last) are ∙ with_last_seam over place last)
-lives_so over records now at.Ended place are is (last, come) = (last ∷ [], come ∙ ap (λ rs. with_last rs last) are ∙ with_last_seam over place last)
-lives_so over records now (at.Inside live) place are is come = ([], (place, come ∙ are ∙ ap (λ rs. rs ++ place ∷ []) (sym (append-nil over)), is))
-lives_so over records now (at.Stepping live c) place are is come = ([], (place, come ∙ are ∙ ap (λ rs. rs ++ place ∷ []) (sym (append-nil over)), is))
-lives_so over records now (at.Asking live doing) place are is come = ([], (place, come ∙ are ∙ ap (λ rs. rs ++ place ∷ []) (sym (append-nil over)), is))
+lives_so : (over records now : List Record) (there : At) (open_record : Record) → records ≡ over ++ open_record ∷ [] → open_record.ending ≡ ending.Open → ComesOf records now there → Stays over now there
+lives_so over records now at.Outside open_record are is (last, come) = inr (record { last = last; are = come ∙ ap (λ rs. with_last rs last) are ∙ with_last_seam over open_record last; rests = inl refl })
+lives_so over records now at.Ended open_record are is (last, come) = inr (record { last = last; are = come ∙ ap (λ rs. with_last rs last) are ∙ with_last_seam over open_record last; rests = inr refl })
+lives_so over records now (at.Inside live) open_record are is come = inl (open_record, come ∙ are, is)
+lives_so over records now (at.Stepping live c) open_record are is come = inl (open_record, come ∙ are, is)
+lives_so over records now (at.Asking live doing) open_record are is come = inl (open_record, come ∙ are, is)
 
 module _ (number : ℕ) (records over : List Record) (are : records ≡ over) where
   begins_so : (moved : Moved) → BeginsOrRests number records moved → Stays over moved.records moved.at
   unfolding begins
   begins_so moved (inl (kind, small, s, is)) =
-      subst (λ (m : Moved). Stays over m.records m.at) (sym is) ([], (place_of (label_after number records) kind, ap (λ rs. rs ++ place_of (label_after number records) kind ∷ []) (are ∙ sym (append-nil over)), refl))
+      subst (λ (m : Moved). Stays over m.records m.at) (sym is) (inl (record_begun (label_after number records) kind, ap (λ rs. rs ++ record_begun (label_after number records) kind ∷ []) are, refl))
   begins_so moved (inr (same, there)) = rests_so over records moved.records moved.at are same there
 
 start_so : (catalog : List Table) (number : ℕ) (records over : List Record) (there : At) (s : Option Statement) (moved : Moved) → StartsAt catalog number records there s moved → HasOver over records there → Stays over moved.records moved.at
 start_so catalog number records over at.Outside s moved starts are = begins_so number records over are moved (resting_moves number records catalog at.Outside s moved (inl refl) starts)
 start_so catalog number records over at.Ended s moved starts are = begins_so number records over are moved (resting_moves number records catalog at.Ended s moved (inr refl) starts)
-start_so catalog number records over (at.Inside live) s moved starts (place, are, is) = lives_so over records moved.records moved.at place are is (said_moves records catalog live s moved starts)
-start_so catalog number records over (at.Stepping live c) s moved starts (place, are, is) = lives_so over records moved.records moved.at place are is (same_moves records _ moved starts (stepping_moves records live c s))
-start_so catalog number records over (at.Asking live doing) s moved starts (place, are, is) = lives_so over records moved.records moved.at place are is (same_moves records _ moved starts refl)
+start_so catalog number records over (at.Inside live) s moved starts (open_record, are, is) = lives_so over records moved.records moved.at open_record are is (said_moves records catalog live s moved starts)
+start_so catalog number records over (at.Stepping live c) s moved starts (open_record, are, is) = lives_so over records moved.records moved.at open_record are is (same_moves records _ moved starts (stepping_moves records live c s))
+start_so catalog number records over (at.Asking live doing) s moved starts (open_record, are, is) = lives_so over records moved.records moved.at open_record are is (same_moves records _ moved starts refl)
 
 take_so : (catalog : List Table) (records over : List Record) (there : At) (got : Got) (moved : Moved) → TakesAt catalog records there got moved → HasOver over records there → Stays over moved.records moved.at
-take_so catalog records over (at.Asking live doing) got moved takes (place, are, is) = lives_so over records moved.records moved.at place are is (taken_moves records catalog live doing got moved takes)
+take_so catalog records over (at.Asking live doing) got moved takes (open_record, are, is) = lives_so over records moved.records moved.at open_record are is (taken_moves records catalog live doing got moved takes)
 take_so catalog records over at.Outside got moved takes are = subst (λ (m : Moved). Stays over m.records m.at) (sym takes) (rests_so over records records at.Outside are refl (inl refl))
 take_so catalog records over at.Ended got moved takes are = subst (λ (m : Moved). Stays over m.records m.at) (sym takes) (rests_so over records records at.Ended are refl (inr refl))
-take_so catalog records over (at.Inside live) got moved takes (place, are, is) = lives_so over records moved.records moved.at place are is (same_moves records _ moved takes refl)
-take_so catalog records over (at.Stepping live c) got moved takes (place, are, is) = lives_so over records moved.records moved.at place are is (same_moves records _ moved takes refl)
+take_so catalog records over (at.Inside live) got moved takes (open_record, are, is) = lives_so over records moved.records moved.at open_record are is (same_moves records _ moved takes refl)
+take_so catalog records over (at.Stepping live c) got moved takes (open_record, are, is) = lives_so over records moved.records moved.at open_record are is (same_moves records _ moved takes refl)
 
 leave_so : (records over : List Record) (there : At) (moved : Moved) → moved ≡ leave_at records there → HasOver over records there → Stays over moved.records moved.at
 leave_so records over at.Outside moved leaves are = subst (λ (m : Moved). Stays over m.records m.at) (sym leaves) (rests_so over records records at.Outside are refl (inl refl))
 leave_so records over at.Ended moved leaves are = subst (λ (m : Moved). Stays over m.records m.at) (sym leaves) (rests_so over records records at.Outside are refl (inl refl))
-leave_so records over (at.Inside live) moved leaves (place, are, is) = lives_so over records moved.records moved.at place are is (same_moves records _ moved leaves (give_up_moves records live ending.RolledBack reply.RolledBack false))
-leave_so records over (at.Stepping live c) moved leaves (place, are, is) = lives_so over records moved.records moved.at place are is (same_moves records _ moved leaves refl)
-leave_so records over (at.Asking live doing) moved leaves (place, are, is) = lives_so over records moved.records moved.at place are is (same_moves records _ moved leaves refl)
+leave_so records over (at.Inside live) moved leaves (open_record, are, is) = lives_so over records moved.records moved.at open_record are is (same_moves records _ moved leaves (give_up_moves records live ending.RolledBack reply.RolledBack false))
+leave_so records over (at.Stepping live c) moved leaves (open_record, are, is) = lives_so over records moved.records moved.at open_record are is (same_moves records _ moved leaves refl)
+leave_so records over (at.Asking live doing) moved leaves (open_record, are, is) = lives_so over records moved.records moved.at open_record are is (same_moves records _ moved leaves refl)
 
 -- ---- a line
 
-on_and_on : (first mid last : Session) → OverStays first mid → OverStays mid last → OverStays first last
-on_and_on first mid last a b over are =
-    let m : (more : List Record) × AreOver (over ++ more) mid = a over are in
-    let n : (more : List Record) × AreOver ((over ++ m.0) ++ more) last = b (over ++ m.0) m.1 in
-    (m.0 ++ n.0, subst (λ rs. AreOver rs last) (append_assoc over m.0 n.0) n.1)
+not_inside : (live : Live) → Rests (at.Inside live) → ⊥
+not_inside live (inl is) = absurd cc
+not_inside live (inr is) = absurd cc
 
-same_session : (first now : Session) → now ≡ first → OverStays first now
-same_session first now is over are = ([], subst (λ s. AreOver (over ++ []) s) (sym is) (subst (λ rs. AreOver rs first) (sym (append-nil over)) are))
+not_stepping : (live : Live) (c : Committing) → Rests (at.Stepping live c) → ⊥
+not_stepping live c (inl is) = absurd cc
+not_stepping live c (inr is) = absurd cc
+
+not_asking : (live : Live) (doing : Job) → Rests (at.Asking live doing) → ⊥
+not_asking live doing (inl is) = absurd cc
+not_asking live doing (inr is) = absurd cc
+
+-- where the session rests, an answer changes nothing
+rest_takes : (catalog : List Table) (records : List Record) (there : At) (got : Got) (moved : Moved) → TakesAt catalog records there got moved → Rests there → (moved.records ≡ records) × Rests moved.at
+rest_takes catalog records at.Outside got moved takes rests = (ap (λ (m : Moved). m.records) takes, inl (ap (λ (m : Moved). m.at) takes))
+rest_takes catalog records at.Ended got moved takes rests = (ap (λ (m : Moved). m.records) takes, inr (ap (λ (m : Moved). m.at) takes))
+rest_takes catalog records (at.Inside live) got moved takes rests = absurd (not_inside live rests)
+rest_takes catalog records (at.Stepping live c) got moved takes rests = absurd (not_stepping live c rests)
+rest_takes catalog records (at.Asking live doing) got moved takes rests = absurd (not_asking live doing rests)
 
 module _ {D : Type 0} (answers : D → Wish → Got → D → Type 0) (catalog : List Table) (new : Session) (said : Turn) (after : D) where
-  exchanges_stay : (made : List Exchange) (s : Session) (t : Turn) (d : D) → Exchanges answers catalog s t d made new said after → OverStays s new
-  exchanges_stay [] s t d h = same_session s new h.0
-  exchanges_stay (x ∷ made) s t d h =
+  exchanges_rest : (made : List Exchange) (s : Session) (t : Turn) (d : D) → Exchanges answers catalog s t d made new said after → Rests s.at → (new.records ≡ s.records) × Rests new.at
+  exchanges_rest [] s t d h rests = (ap (λ (y : Session). y.records) h.0, subst (λ (y : Session). Rests y.at) (sym h.0) rests)
+  exchanges_rest (x ∷ made) s t d h rests =
       let takes : Takes catalog s x.got h.3 h.4 = h.7 in
-      on_and_on s h.3 new (λ over are. take_so catalog s.records over s.at x.got (moved_to h.3 h.4) takes.moves are) (exchanges_stay made h.3 h.4 h.5 h.8)
+      let one : (h.3.records ≡ s.records) × Rests h.3.at = rest_takes catalog s.records s.at x.got (moved_to h.3 h.4) takes.moves rests in
+      let all : (new.records ≡ h.3.records) × Rests new.at = exchanges_rest made h.3 h.4 h.5 h.8 one.1 in
+      (all.0 ∙ one.0, all.1)
+
+  -- once one more is over, it stays at that
+  exchanges_one : (made : List Exchange) (s : Session) (t : Turn) (d : D) (over : List Record) → Exchanges answers catalog s t d made new said after → OneMore over s.records s.at → OneMore over new.records new.at
+  exchanges_one made s t d over h one =
+      let all : (new.records ≡ s.records) × Rests new.at = exchanges_rest made s t d h one.rests in
+      record { last = one.last; are = all.0 ∙ one.are; rests = all.1 }
+
+  exchanges_stay : (made : List Exchange) (s : Session) (t : Turn) (d : D) (over : List Record) → Exchanges answers catalog s t d made new said after → AreOver over s → Stays over new.records new.at
+  exchanges_stay [] s t d over h are = inl (subst (AreOver over) (sym h.0) are)
+  exchanges_stay (x ∷ made) s t d over h are =
+      let takes : Takes catalog s x.got h.3 h.4 = h.7 in
+      ⊎_elim
+      (λ (still : AreOver over h.3). exchanges_stay made h.3 h.4 h.5 over h.8 still)
+      (λ (one : OneMore over h.3.records h.3.at). inr (exchanges_one made h.3 h.4 h.5 over h.8 one))
+      (take_so catalog s.records over s.at x.got (moved_to h.3 h.4) takes.moves are)
+
+-- nor does a STEP, or leaving it
+rest_steps : (catalog : List Table) (number : ℕ) (records : List Record) (there : At) (moved : Moved) → StartsAt catalog number records there None moved → Rests there → (moved.records ≡ records) × Rests moved.at
+rest_steps catalog number records at.Outside moved starts rests = (ap (λ (m : Moved). m.records) starts, inl (ap (λ (m : Moved). m.at) starts))
+rest_steps catalog number records at.Ended moved starts rests = (ap (λ (m : Moved). m.records) starts, inr (ap (λ (m : Moved). m.at) starts))
+rest_steps catalog number records (at.Inside live) moved starts rests = absurd (not_inside live rests)
+rest_steps catalog number records (at.Stepping live c) moved starts rests = absurd (not_stepping live c rests)
+rest_steps catalog number records (at.Asking live doing) moved starts rests = absurd (not_asking live doing rests)
+
+rest_leaves : (records : List Record) (there : At) (moved : Moved) → moved ≡ leave_at records there → Rests there → (moved.records ≡ records) × Rests moved.at
+rest_leaves records at.Outside moved leaves rests = (ap (λ (m : Moved). m.records) leaves, inl (ap (λ (m : Moved). m.at) leaves))
+rest_leaves records at.Ended moved leaves rests = (ap (λ (m : Moved). m.records) leaves, inl (ap (λ (m : Moved). m.at) leaves))
+rest_leaves records (at.Inside live) moved leaves rests = absurd (not_inside live rests)
+rest_leaves records (at.Stepping live c) moved leaves rests = absurd (not_stepping live c rests)
+rest_leaves records (at.Asking live doing) moved leaves rests = absurd (not_asking live doing rests)
 
 module _ {D : Type 0} (answers : D → Wish → Got → D → Type 0) (catalog : List Table) (old first : Session) (asked : Turn) (desk : D) (new : Session) (after : D) (r : Reply) (replied : Replied answers catalog first asked desk new after r) where
+  behind : (over : List Record) → Stays over first.records first.at → AreOver over new ⊎ OneMore over new.records new.at
+  behind over begun = ⊎_elim
+      (λ (still : AreOver over first). exchanges_stay answers catalog new (turn.Said r) after replied.made first asked desk over replied.goes still)
+      (λ (one : OneMore over first.records first.at). inr (exchanges_one answers catalog new (turn.Said r) after replied.made first asked desk over replied.goes one))
+      begun
+
   pub line_stays : (s : Option Statement) → Starts catalog old s first asked → OverStays old new
-  line_stays s starts = on_and_on old first new (λ over are. start_so catalog old.number old.records over old.at s (moved_to first asked) starts.moves are) (exchanges_stay answers catalog new (turn.Said r) after replied.made first asked desk replied.goes)
+  line_stays s starts over are = behind over (start_so catalog old.number old.records over old.at s (moved_to first asked) starts.moves are)
 
   pub left_stays : Leaves old first asked → OverStays old new
-  left_stays leaves = on_and_on old first new (λ over are. leave_so old.records over old.at (moved_to first asked) leaves.moves are) (exchanges_stay answers catalog new (turn.Said r) after replied.made first asked desk replied.goes)
+  left_stays leaves over are = behind over (leave_so old.records over old.at (moved_to first asked) leaves.moves are)
+
+  rest_on : (first.records ≡ old.records) × Rests first.at → (new.records ≡ old.records) × Rests new.at
+  rest_on begun =
+      let all : (new.records ≡ first.records) × Rests new.at = exchanges_rest answers catalog new (turn.Said r) after replied.made first asked desk replied.goes begun.1 in
+      (all.0 ∙ begun.0, all.1)
+
+  pub line_rests : (s : Option Statement) → Starts catalog old s first asked → s ≡ None → RestsStill old new
+  line_rests s starts none rests = rest_on (rest_steps catalog old.number old.records old.at (moved_to first asked) (subst (λ (o : Option Statement). StartsAt catalog old.number old.records old.at o (moved_to first asked)) none starts.moves) rests)
+
+  pub left_rests : Leaves old first asked → RestsStill old new
+  left_rests leaves rests = rest_on (rest_leaves old.records old.at (moved_to first asked) leaves.moves rests)

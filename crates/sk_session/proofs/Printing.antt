@@ -25,7 +25,7 @@ use Rattle.sk_session.specs.declared.live.At.{At}
 use Rattle.sk_session.specs.declared.live.At.TheVariants as at
 use Rattle.sk_session.specs.declared.live.Moved.{Moved}
 use Rattle.sk_session.specs.declared.session.Session.{Session}
-use Rattle.sk_session.specs.Moving.{record_now, with_last, place_of, begins, label_after, judged_outside, judged_outside_at, judged_outside_in, OutsideTable, StartsOutside, start_ended, TakesAt, StartsAt, GoesAs, leave_at, engine_kind}
+use Rattle.sk_session.specs.Moving.{record_now, with_last, record_begun, begins, label_after, judged_outside, judged_outside_at, judged_outside_in, OutsideTable, StartsOutside, start_ended, TakesAt, StartsAt, GoesAs, leave_at, engine_kind}
 use Rattle.sk_session.specs.Starting.{Starts, Takes, Leaves, moved_to, fresh}
 use Rattle.sk_session.specs.EachTalk.{AnswerFits}
 use Rattle.sk_session.specs.SoFar.{so_far}
@@ -58,8 +58,8 @@ of_session : (seat : Seat) (o : Option Statement) (said : List Said) (new : Sess
 of_session seat o said new (turn.Ask w) h = h
 of_session seat o said new (turn.Said r) h = record { part = h.part; said_are = h.said_are; adds = h.adds; stands = h.stands; clear = h.clear }
 
-module _ (seat : Seat) (o : Option Statement) (front : List Record) (place : Record) (said : List Said) (records : List Record) where
-  spoke_done : (there : At) (r : Reply) → Spoke seat o front place said records there r → Done seat o (said_in front ++ said) records there r
+module _ (seat : Seat) (o : Option Statement) (front : List Record) (open_record : Record) (said : List Said) (records : List Record) where
+  spoke_done : (there : At) (r : Reply) → Spoke seat o front open_record said records there r → Done seat o (said_in front ++ said) records there r
   spoke_done there r h = record {
     part = h.part;
     said_are = ap said_in h.are ∙ said_last front h.last ∙ ap (λ ss. said_in front ++ ss) h.says ∙ sym (append_assoc (said_in front) said h.part);
@@ -68,11 +68,11 @@ module _ (seat : Seat) (o : Option Statement) (front : List Record) (place : Rec
     clear = h.clear;
   }
 
-  waits_on : (there : At) → Waiting seat o front place said records there → UnderWay seat o (said_in front ++ said) records there
-  waits_on (at.Asking live doing) h = (front, place, h.0, ap (λ ss. said_in front ++ ss) (sym h.1), h.2)
+  waits_on : (there : At) → Waiting seat o front open_record said records there → UnderWay seat o (said_in front ++ said) records there
+  waits_on (at.Asking live doing) h = (front, open_record, h.0, ap (λ ss. said_in front ++ ss) (sym h.1), h.2)
   waits_on _ h = absurd h
 
-  goes_on : (there : At) (t : Turn) → Does seat o front place said records there t → SpeakingAt seat o (said_in front ++ said) records there t
+  goes_on : (there : At) (t : Turn) → Does seat o front open_record said records there t → SpeakingAt seat o (said_in front ++ said) records there t
   goes_on there (turn.Ask w) h = waits_on there h
   goes_on there (turn.Said r) h = spoke_done there r h
 
@@ -80,10 +80,10 @@ module _ (seat : Seat) (o : Option Statement) (front : List Record) (place : Rec
 
 take_at : (catalog : List Table) (seat : Seat) (o : Option Statement) (said : List Said) (records : List Record) (there : At) (got : Got) (moved : Moved) → TakesAt catalog records there got moved → UnderWay seat o said records there → AnswerFits there got
     → SpeakingAt seat o said moved.records moved.at moved.turn
-take_at catalog seat o said records (at.Asking live doing) got moved takes (front, place, are, is, fits) answer =
+take_at catalog seat o said records (at.Asking live doing) got moved takes (front, open_record, are, is, fits) answer =
     subst (λ ss. SpeakingAt seat o ss moved.records moved.at moved.turn) (sym is)
-    (goes_on seat o front place live.said moved.records moved.at moved.turn
-    (take_to seat o front place catalog live doing got moved fits answer (subst (λ rs. GoesAs catalog rs live doing got moved) are takes)))
+    (goes_on seat o front open_record live.said moved.records moved.at moved.turn
+    (take_to seat o front open_record catalog live doing got moved fits answer (subst (λ rs. GoesAs catalog rs live doing got moved) are takes)))
 take_at catalog seat o said records _ got moved takes u answer = absurd answer
 
 pub take_prints : (catalog : List Table) (old : Session) (got : Got) (new : Session) (t : Turn) → Takes catalog old got new t → TakePrints old got new t
@@ -101,7 +101,7 @@ answered records seat o there r same adds stands clear = record { part = []; sai
 
 begins_from : (number : ℕ) (records : List Record) (kind : TxKind) (small : Bool) (s : Statement) → IsHeard Outside small (Some s) → FromOutside records (Some s) (begins records (label_after number records) kind small s)
 unfolding begins
-begins_from number records kind small s h = (records, place_of (label_after number records) kind, refl, sym (append-nil (said_in records)), (refl, h))
+begins_from number records kind small s h = (records, record_begun (label_after number records) kind, refl, sym (append-nil (said_in records)), (refl, h))
 
 outside_stays : (s : Statement) (r : Reply) → IsPlain s → Outside ≡ seat_outside (Some s) r
 outside_stays (statement.Begin begun) r plain = absurd cc
@@ -159,22 +159,22 @@ module _ (catalog : List Table) (number : ℕ) (records : List Record) where
 -- ---- each call
 
 -- what is said so far where a transaction is live
-said_live : (records front : List Record) (place : Record) (live : Live) → records ≡ front ++ place ∷ [] → said_in (with_last records (record_now live)) ≡ said_in front ++ live.said
-said_live records front place live are =
-    ap (λ rs. said_in (with_last rs (record_now live))) are ∙ ap said_in (with_last_seam front place (record_now live)) ∙ said_last front (record_now live) ∙ ap (λ ss. said_in front ++ ss) (append-nil live.said)
+said_live : (records front : List Record) (open_record : Record) (live : Live) → records ≡ front ++ open_record ∷ [] → said_in (with_last records (record_now live)) ≡ said_in front ++ live.said
+said_live records front open_record live are =
+    ap (λ rs. said_in (with_last rs (record_now live))) are ∙ ap said_in (with_last_seam front open_record (record_now live)) ∙ said_last front (record_now live) ∙ ap (λ ss. said_in front ++ ss) (append-nil live.said)
 
 start_at : (catalog : List Table) (number : ℕ) (records : List Record) (there : At) (o : Option Statement) (moved : Moved) → StartsAt catalog number records there o moved → IsClear records there
     → SpeakingAt (seat_at there) o (said_in (so_far records there)) moved.records moved.at moved.turn
 start_at catalog number records at.Outside o moved starts clear = outside_from catalog number records o moved starts
 start_at catalog number records at.Ended o moved starts clear = subst (FromEnded catalog number records o) (sym starts) (ended_from catalog number records o)
-start_at catalog number records (at.Inside live) o moved starts (none, declared, (front, place, are)) =
-    subst (λ ss. SpeakingAt Inside o ss moved.records moved.at moved.turn) (sym (said_live records front place live are))
-    (goes_on Inside o front place live.said moved.records moved.at moved.turn
-    (hears_inside catalog front place live none declared o moved (subst (λ rs. StartsAt catalog number rs (at.Inside live) o moved) are starts)))
-start_at catalog number records (at.Stepping live c) o moved starts (none, declared, (front, place, are)) =
-    subst (λ ss. SpeakingAt Inside o ss moved.records moved.at moved.turn) (sym (said_live records front place live are))
-    (goes_on Inside o front place live.said moved.records moved.at moved.turn
-    (subst (Goes Inside o front place live.said) (sym (subst (λ rs. StartsAt catalog number rs (at.Stepping live c) o moved) are starts)) (hears_stepping catalog front place live none declared c o)))
+start_at catalog number records (at.Inside live) o moved starts (none, declared, (front, open_record, are)) =
+    subst (λ ss. SpeakingAt Inside o ss moved.records moved.at moved.turn) (sym (said_live records front open_record live are))
+    (goes_on Inside o front open_record live.said moved.records moved.at moved.turn
+    (hears_inside catalog front open_record live none declared o moved (subst (λ rs. StartsAt catalog number rs (at.Inside live) o moved) are starts)))
+start_at catalog number records (at.Stepping live c) o moved starts (none, declared, (front, open_record, are)) =
+    subst (λ ss. SpeakingAt Inside o ss moved.records moved.at moved.turn) (sym (said_live records front open_record live are))
+    (goes_on Inside o front open_record live.said moved.records moved.at moved.turn
+    (subst (Goes Inside o front open_record live.said) (sym (subst (λ rs. StartsAt catalog number rs (at.Stepping live c) o moved) are starts)) (hears_stepping catalog front open_record live none declared c o)))
 start_at catalog number records (at.Asking live doing) o moved starts clear = absurd clear
 
 pub start_prints : (catalog : List Table) (old : Session) (o : Option Statement) (new : Session) (t : Turn) → Starts catalog old o new t → StartPrints old o new t
@@ -183,14 +183,14 @@ start_prints catalog old o new t starts clear = of_session (seat_at old.at) o (s
 left_at : (records : List Record) (there : At) (moved : Moved) → moved ≡ leave_at records there → IsClear records there → SpeakingAt (seat_at there) None (said_in (so_far records there)) moved.records moved.at moved.turn
 left_at records at.Outside moved is clear = subst (λ (m : Moved). SpeakingAt Outside None (said_in records) m.records m.at m.turn) (sym is) (answered records Outside None at.Outside reply.RolledBack refl refl refl tt)
 left_at records at.Ended moved is clear = subst (λ (m : Moved). SpeakingAt Ended None (said_in records) m.records m.at m.turn) (sym is) (answered records Ended None at.Outside reply.RolledBack refl refl refl tt)
-left_at records (at.Inside live) moved is (none, declared, (front, place, are)) =
-    subst (λ ss. SpeakingAt Inside None ss moved.records moved.at moved.turn) (sym (said_live records front place live are))
-    (goes_on Inside None front place live.said moved.records moved.at moved.turn
-    (subst (Goes Inside None front place live.said) (sym (is ∙ ap (λ rs. leave_at rs (at.Inside live)) are)) (left_inside [] front place live none declared)))
-left_at records (at.Stepping live c) moved is (none, declared, (front, place, are)) =
-    subst (λ ss. SpeakingAt Inside None ss moved.records moved.at moved.turn) (sym (said_live records front place live are))
-    (goes_on Inside None front place live.said moved.records moved.at moved.turn
-    (subst (Goes Inside None front place live.said) (sym (is ∙ ap (λ rs. leave_at rs (at.Stepping live c)) are)) (left_stepping [] front place live none declared c)))
+left_at records (at.Inside live) moved is (none, declared, (front, open_record, are)) =
+    subst (λ ss. SpeakingAt Inside None ss moved.records moved.at moved.turn) (sym (said_live records front open_record live are))
+    (goes_on Inside None front open_record live.said moved.records moved.at moved.turn
+    (subst (Goes Inside None front open_record live.said) (sym (is ∙ ap (λ rs. leave_at rs (at.Inside live)) are)) (left_inside [] front open_record live none declared)))
+left_at records (at.Stepping live c) moved is (none, declared, (front, open_record, are)) =
+    subst (λ ss. SpeakingAt Inside None ss moved.records moved.at moved.turn) (sym (said_live records front open_record live are))
+    (goes_on Inside None front open_record live.said moved.records moved.at moved.turn
+    (subst (Goes Inside None front open_record live.said) (sym (is ∙ ap (λ rs. leave_at rs (at.Stepping live c)) are)) (left_stepping [] front open_record live none declared c)))
 left_at records (at.Asking live doing) moved is clear = absurd clear
 
 pub leave_prints : (old new : Session) (t : Turn) → Leaves old new t → LeavePrints old new t

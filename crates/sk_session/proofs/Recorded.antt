@@ -15,7 +15,7 @@ use Rattle.sk_session.specs.declared.live.At.{At}
 use Rattle.sk_session.specs.declared.live.At.TheVariants as at
 use Rattle.sk_session.specs.declared.live.Moved.{Moved}
 use Rattle.sk_session.specs.declared.session.Session.{Session}
-use Rattle.sk_session.specs.Moving.{with_last, record_now, records_at, place_of, label_after}
+use Rattle.sk_session.specs.Moving.{with_last, record_now, records_at, record_begun, label_after}
 use Rattle.sk_session.specs.Speaks.{Over, SpeaksAt, BegunAt, Unmoved, TakeKept, StartKept, LeaveKept}
 use Rattle.sk_session.specs.Starting.{Starts, Takes, Leaves, moved_to, records_now}
 use Rattle.sk_session.proofs.Taken.{takes_keep}
@@ -61,7 +61,7 @@ module _ (catalog : List Table) (number : ℕ) (records : List Record) (talks : 
   pub goes_on : (more : Talk) → LastLive catalog number records (grown talks more) label (talk ++ more)
   goes_on more = record {
     front = l.front;
-    place = l.place;
+    open_record = l.open_record;
     before = l.before;
     records_are = l.records_are;
     talks_are = ap (λ ts. grown ts more) l.talks_are ∙ grown_seam l.before talk more;
@@ -72,7 +72,7 @@ module _ (catalog : List Table) (number : ℕ) (records : List Record) (talks : 
   -- its record has all its calls, and so have those before it
   pub has_all : (Has : Record → Talk → Type 0) → EachHas Has number 1 l.front l.before → (more : Talk) (r : Record) → r.label ≡ label → Has r (talk ++ more) → EachHas Has number 1 (with_last records r) (grown talks more)
   has_all Has each more r same has =
-      subst (λ rs. EachHas Has number 1 rs (grown talks more)) (sym (ap (λ rs. with_last rs r) l.records_are ∙ with_last_seam l.front l.place r))
+      subst (λ rs. EachHas Has number 1 rs (grown talks more)) (sym (ap (λ rs. with_last rs r) l.records_are ∙ with_last_seam l.front l.open_record r))
       (subst (λ ts. EachHas Has number 1 (l.front ++ r ∷ []) ts) (sym (ap (λ ts. grown ts more) l.talks_are ∙ grown_seam l.before talk more))
       (each_push Has number 1 l.front l.before r (talk ++ more) each (same ∙ l.label_is ∙ ap (label_at number) (omega arith)) has))
 
@@ -132,7 +132,7 @@ begun_talks : (catalog : List Table) (number : ℕ) (old : List Record) (moved :
 begun_talks catalog number old moved at.Outside talks h each = subst (λ rs. EachOver catalog number 1 rs talks) (sym h) each
 begun_talks catalog number old moved at.Ended talks h each = subst (λ rs. EachOver catalog number 1 rs talks) (sym h) each
 begun_talks catalog number old moved (at.Asking live doing) talks h each =
-    ([], record { front = old; place = place_of live.label live.kind; before = talks; records_are = h.0; talks_are = refl; each = each; label_is = h.1 }, h.2)
+    ([], record { front = old; open_record = record_begun live.label live.kind; before = talks; records_are = h.0; talks_are = refl; each = each; label_is = h.1 }, h.2)
 begun_talks catalog number old moved _ talks h each = absurd h
 
 same_from : (there : At) (talks : List Talk) → talks_from at.Outside there talks ≡ talks_from at.Ended there talks

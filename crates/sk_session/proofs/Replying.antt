@@ -47,27 +47,27 @@ pub open_loss : (live : Live) (e : EngineName) (n : ℕ) (f : EngineFault) → W
 open_loss live Mem n f fits = fits
 open_loss live Store n f fits = fits
 
-module _ (seat : Seat) (o : Option Statement) (front : List Record) (place : Record) where
+module _ (seat : Seat) (o : Option Statement) (front : List Record) (open_record : Record) where
   abbrev To : List Said → Moved → Type 0
-  To said moved = Goes seat o front place said moved
+  To said moved = Goes seat o front open_record said moved
 
   abbrev rows : List Record
-  rows = all seat o front place
+  rows = all seat o front open_record
 
   -- one of two moves, of which the second is that memory was wanted
   or_starve : (live : Live) (x moved : Moved) → Either x (starve rows live) moved → To live.said x → Hears seat o live → To live.said moved
-  or_starve live x moved is goes h = either_goes seat o front place live.said x (starve rows live) moved is goes (starve_goes seat o front place live h)
+  or_starve live x moved is goes h = either_goes seat o front open_record live.said x (starve rows live) moved is goes (starve_goes seat o front open_record live h)
 
   count_to : (live : Live) (got : Got) → Hears seat o live → To live.said (count_goes rows live got)
   count_to live (given.Reg (told.Number n)) h = (refl, refl, h)
-  count_to live _ h = starve_goes seat o front place live h
+  count_to live _ h = starve_goes seat o front open_record live h
 
   open_to : (catalog : List Table) (live : Live) (e : EngineName) (n : ℕ) (got : Got) (moved : Moved) → Hears seat o live → WishFits (on e (call.Open live.label n)) got
       → Either (open_goes catalog rows (noted_open live e n got) e got) (starve rows (noted_open live e n got)) moved → To live.said moved
-  open_to catalog live Mem n (given.Engine answer.Done) moved h fits is = or_starve (opened_at live Mem n) _ moved is (behind_open_goes seat o front place catalog (opened_at live Mem n) (is_begin live.statement) h) h
-  open_to catalog live Store n (given.Engine answer.Done) moved h fits is = or_starve (opened_at live Store n) _ moved is (behind_open_goes seat o front place catalog (opened_at live Store n) (is_begin live.statement) h) h
-  open_to catalog live e n (given.Engine (answer.Fault f)) moved h fits is = or_starve live _ moved is (fault_goes seat o front place live e f h (open_loss live e n f fits)) h
-  open_to catalog live e n _ moved h fits is = or_starve live _ moved is (starve_goes seat o front place live h) h
+  open_to catalog live Mem n (given.Engine answer.Done) moved h fits is = or_starve (opened_at live Mem n) _ moved is (behind_open_goes seat o front open_record catalog (opened_at live Mem n) (is_begin live.statement) h) h
+  open_to catalog live Store n (given.Engine answer.Done) moved h fits is = or_starve (opened_at live Store n) _ moved is (behind_open_goes seat o front open_record catalog (opened_at live Store n) (is_begin live.statement) h) h
+  open_to catalog live e n (given.Engine (answer.Fault f)) moved h fits is = or_starve live _ moved is (fault_goes seat o front open_record live e f h (open_loss live e n f fits)) h
+  open_to catalog live e n _ moved h fits is = or_starve live _ moved is (starve_goes seat o front open_record live h) h
 
   -- the transaction with the selection, where one was made
   abbrev with_selection : Live → Selected → Bool → Live
@@ -82,23 +82,23 @@ module _ (seat : Seat) (o : Option Statement) (front : List Record) (place : Rec
 
   select_to : (live : Live) (got : Got) (moved : Moved) → Hears seat o live → Either (select_goes rows (noted_select live got) got) (starve rows (noted_select live got)) moved → To live.said moved
   select_to live (given.Reg (told.Selected s)) moved h is = selected_to live s moved h is
-  select_to live (given.Reg (told.Recycled r)) moved h is = or_starve live _ moved is (lose_goes seat o front place live _ (reply.Recycled r) h refl) h
-  select_to live _ moved h is = or_starve live _ moved is (starve_goes seat o front place live h) h
+  select_to live (given.Reg (told.Recycled r)) moved h is = or_starve live _ moved is (lose_goes seat o front open_record live _ (reply.Recycled r) h refl) h
+  select_to live _ moved h is = or_starve live _ moved is (starve_goes seat o front open_record live h) h
 
   read_to : (catalog : List Table) (live : Live) (e : EngineName) (key : Option Value) (got : Got) → Hears seat o live → To live.said (read_goes catalog rows live e key got)
-  read_to catalog live e None (given.Engine (answer.Rows rs)) h = rows_come_goes seat o front place catalog live e rs h
-  read_to catalog live e None (given.Engine (answer.Fault f)) h = fault_at_read_goes seat o front place live e f h
-  read_to catalog live e None _ h = starve_goes seat o front place live h
-  read_to catalog live e (Some key) (given.Engine (answer.Found row)) h = rows_come_goes seat o front place catalog live e _ h
-  read_to catalog live e (Some key) (given.Engine (answer.Fault f)) h = fault_at_read_goes seat o front place live e f h
-  read_to catalog live e (Some key) _ h = starve_goes seat o front place live h
+  read_to catalog live e None (given.Engine (answer.Rows rs)) h = rows_come_goes seat o front open_record catalog live e rs h
+  read_to catalog live e None (given.Engine (answer.Fault f)) h = fault_at_read_goes seat o front open_record live e f h
+  read_to catalog live e None _ h = starve_goes seat o front open_record live h
+  read_to catalog live e (Some key) (given.Engine (answer.Found row)) h = rows_come_goes seat o front open_record catalog live e _ h
+  read_to catalog live e (Some key) (given.Engine (answer.Fault f)) h = fault_at_read_goes seat o front open_record live e f h
+  read_to catalog live e (Some key) _ h = starve_goes seat o front open_record live h
 
   put_to : (live : Live) (e : EngineName) (writes : List Write) (done : ℕ) (r : Reply) (got : Got) (moved : Moved) → Hears seat o live → IsTold seat r → WishFits (put_wish live e (slice_get writes done)) got
       → Either (put_goes rows (noted_put live e got) e writes done r got) (starve rows (noted_put live e got)) moved → To live.said moved
-  put_to live Mem writes done r (given.Engine answer.Done) moved h told fits is = or_starve (has_written live Mem) _ moved is (put_next_goes seat o front place (has_written live Mem) Mem writes (done + 1) r h told) h
-  put_to live Store writes done r (given.Engine answer.Done) moved h told fits is = or_starve (has_written live Store) _ moved is (put_next_goes seat o front place (has_written live Store) Store writes (done + 1) r h told) h
-  put_to live e writes done r (given.Engine (answer.Fault f)) moved h told fits is = or_starve live _ moved is (fault_goes seat o front place live e f h (put_loss live e (slice_get writes done) f fits)) h
-  put_to live e writes done r _ moved h told fits is = or_starve live _ moved is (starve_goes seat o front place live h) h
+  put_to live Mem writes done r (given.Engine answer.Done) moved h told fits is = or_starve (has_written live Mem) _ moved is (put_next_goes seat o front open_record (has_written live Mem) Mem writes (done + 1) r h told) h
+  put_to live Store writes done r (given.Engine answer.Done) moved h told fits is = or_starve (has_written live Store) _ moved is (put_next_goes seat o front open_record (has_written live Store) Store writes (done + 1) r h told) h
+  put_to live e writes done r (given.Engine (answer.Fault f)) moved h told fits is = or_starve live _ moved is (fault_goes seat o front open_record live e f h (put_loss live e (slice_get writes done) f fits)) h
+  put_to live e writes done r _ moved h told fits is = or_starve live _ moved is (starve_goes seat o front open_record live h) h
 
   -- ---- a commit
 
@@ -121,11 +121,11 @@ module _ (seat : Seat) (o : Option Statement) (front : List Record) (place : Rec
   paused said live d step n own same b = record {
     last = record_now live;
     part = [];
-    are = with_last_seam front place (record_now live);
+    are = with_last_seam front open_record (record_now live);
     says = ap (λ ss. ss ++ []) same;
     adds = subst (λ q. Adds seat q (reply.Step step n) []) (sym b.1) refl;
     stands = subst (λ x. Inside ≡ seat_after x o (reply.Step step n)) (sym b.0) (subst (λ q. Inside ≡ seat_after Inside q (reply.Step step n)) (sym b.1) refl);
-    clear = (b.2, b.3, (front, place, refl));
+    clear = (b.2, b.3, (front, open_record, refl));
   }
 
   went_to : (live : Live) (d : Committing) (step : StepName) (n : Option ℕ) (whole : Bool) (own : Option Reply) → Closes seat o live whole own → To live.said (went_on rows (stepped live step n) d step n whole own)
@@ -136,7 +136,7 @@ module _ (seat : Seat) (o : Option Statement) (front : List Record) (place : Rec
   commit_to live (outcome.More d) whole own c = (refl, refl, c)
   commit_to live (outcome.Step (Went d step n)) whole own c = went_to live d step n whole own c
   commit_to live (outcome.Step (Early d floor counter)) whole own c = (refl, refl, c)
-  commit_to live (outcome.Step (Ended end)) whole own c = finish_goes seat o front place live _ _ false (c.1 end)
+  commit_to live (outcome.Step (Ended end)) whole own c = finish_goes seat o front open_record live _ _ false (c.1 end)
 
   -- an answer of the kind that was asked for
   pub take_to : (catalog : List Table) (live : Live) (doing : Job) (got : Got) (moved : Moved) → JobFits seat o live doing → WishFits (wished live doing) got → GoesAs catalog rows live doing got moved → To live.said moved
@@ -146,4 +146,4 @@ module _ (seat : Seat) (o : Option Statement) (front : List Record) (place : Rec
   take_to catalog live (job.Read e t key) got moved h fits is = or_starve live _ moved is (read_to catalog live e key got h) h
   take_to catalog live (job.Put e writes done r) got moved h fits is = put_to live e writes done r got moved h.0 h.1 fits is
   take_to catalog live (job.Commit c whole own) got moved h fits is = subst (To live.said) (sym is) (commit_to live (taken c got) whole own h)
-  take_to catalog live (job.Leave e how r lost) got moved h fits is = subst (To live.said) (sym is) (drops_goes seat o front place live (next_opened live e) how r lost h)
+  take_to catalog live (job.Leave e how r lost) got moved h fits is = subst (To live.said) (sym is) (drops_goes seat o front open_record live (next_opened live e) how r lost h)

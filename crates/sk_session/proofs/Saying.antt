@@ -34,7 +34,7 @@ use Rattle.sk_session.specs.Moving.{put_wish, said_now, used_of, heard, goes_wel
 use Rattle.sk_session.specs.Speaks.{IsOpen, Answering, Stands, Commits, is_given_up, GivenUp, Keeps}
 use Rattle.sk_session.proofs.Talking.{going_push}
 use Rattle.sk_session.proofs.Leaving.{heard_all, gives_up}
-use Rattle.sk_session.proofs.Standing.{some_open, none_checked, give_up_keeps}
+use Rattle.sk_session.proofs.GivenUp.{some_open, none_checked, give_up_keeps}
 
 -- ---- the transaction is lost
 

@@ -42,7 +42,7 @@ found_then e None (answer.Rows rs) rows Then calls r found then = subst (λ rs. 
 found_then e (Some key) (answer.Found row) rows Then calls r found then = subst (λ rs. Then rs calls r) found then
 found_then e _ _ rows Then calls r found then = absurd found
 
--- the writes from one place on
+-- the writes from one index on
 pub next_write : (ws : List Write) (i : ℕ) (w : Write) → slice_get ws i ≡ Some w → drop i ws ≡ w ∷ drop (i + 1) ws
 next_write [] i w is = absurd cc
 next_write (x ∷ xs) zero w is = let e : x ≡ w = (cc) in ap (λ y. y ∷ xs) e

@@ -45,7 +45,7 @@ use Rattle.sk_session.specs.declared.live.Job.TheVariants as job
 use Rattle.sk_session.specs.declared.live.At.{At}
 use Rattle.sk_session.specs.declared.live.At.TheVariants as at
 use Rattle.sk_session.specs.declared.live.Moved.{Moved}
-use Rattle.sk_session.specs.Moving.{on, wished, put_wish, opened_at, has_written, selects, noted_open, noted_select, noted_put, place_after, drops, first_opened, next_opened, give_up, lose, lose_by, starve, goes_well, closes, heard, hears, say, put_at, put_next, read_now, read_by, read_for, behind_open, answer_in, answer_now, answer_by, rows_come, fault_at_read, commits, end_reply, went_on, stepped, commit_goes, ask_open, count_goes, open_goes, select_goes, read_goes, put_goes, is_begin, Either, GoesAs}
+use Rattle.sk_session.specs.Moving.{on, wished, put_wish, opened_at, has_written, selects, noted_open, noted_select, noted_put, at_after, drops, first_opened, next_opened, give_up, lose, lose_by, starve, goes_well, closes, heard, hears, say, put_at, put_next, read_now, read_by, read_for, behind_open, answer_in, answer_now, answer_by, rows_come, fault_at_read, commits, end_reply, went_on, stepped, commit_goes, ask_open, count_goes, open_goes, select_goes, read_goes, put_goes, is_begin, Either, GoesAs}
 use Rattle.sk_session.specs.Printed.{IsPlain}
 use Rattle.sk_session.proofs.Judged.{answer_kept}
 use Rattle.sk_session.proofs.Used.{answer_used}
@@ -79,7 +79,7 @@ now_told catalog (Some s) rows a is = answer_told catalog s rows (table_named ca
 module _ (P : At → Reply → Type 0) where
   -- it holds of all that the statement of a transaction may be answered, one outside of BEGIN or one of this kind
   pub record Replies (small : Bool) (kind : TxKind) : Type 0 where
-    pub lost : (r : Reply) → is_lost r ≡ true → P (place_after (not small)) r
+    pub lost : (r : Reply) → is_lost r ≡ true → P (at_after (not small)) r
     pub kept : small ≡ false → (now : Live) → now.kind ≡ kind → (r : Reply) → IsAnswer r → P (at.Inside now) r
     pub closed : small ≡ true → (r : Reply) → uses_label Outside r ≡ true → P at.Outside r
 
@@ -94,7 +94,7 @@ module _ (P : At → Reply → Type 0) where
   JobLeads live (job.Read e t key) = Replies live.small live.kind
   JobLeads live (job.Put e writes done r) = Replies live.small live.kind × IsAnswer r
   JobLeads live (job.Commit c whole own) = Ends whole own
-  JobLeads live (job.Leave e how r lost) = P (place_after lost) r
+  JobLeads live (job.Leave e how r lost) = P (at_after lost) r
 
   abbrev pub WaitLeads : At → Type 0
   WaitLeads (at.Asking live doing) = JobLeads live doing
@@ -113,17 +113,17 @@ module _ (P : At → Reply → Type 0) where
 
   -- ---- the transaction is over
 
-  pub drops_leads : (records : List Record) (live : Live) (e : Option EngineName) (how : Ending) (r : Reply) (lost : Bool) → P (place_after lost) r → Leads (drops records live e how r lost)
+  pub drops_leads : (records : List Record) (live : Live) (e : Option EngineName) (how : Ending) (r : Reply) (lost : Bool) → P (at_after lost) r → Leads (drops records live e how r lost)
   drops_leads records live None how r lost p = p
   drops_leads records live (Some e) how r lost p = p
 
-  pub give_up_leads : (records : List Record) (live : Live) (how : Ending) (r : Reply) (lost : Bool) → P (place_after lost) r → Leads (give_up records live how r lost)
+  pub give_up_leads : (records : List Record) (live : Live) (how : Ending) (r : Reply) (lost : Bool) → P (at_after lost) r → Leads (give_up records live how r lost)
   give_up_leads records live how r lost p = drops_leads records live (first_opened live) how r lost p
 
   lose_leads : (records : List Record) (live : Live) (how : Ending) (r : Reply) → Replies live.small live.kind → is_lost r ≡ true → Leads (lose records live how r)
   lose_leads records live how r h lost = give_up_leads records live how r (not live.small) (h.lost r lost)
 
-  pub starved_leads : (records : List Record) (live : Live) → P (place_after (not live.small)) (reply.Refused err.Memory) → Leads (starve records live)
+  pub starved_leads : (records : List Record) (live : Live) → P (at_after (not live.small)) (reply.Refused err.Memory) → Leads (starve records live)
   unfolding starve
   starved_leads records live p = give_up_leads records live _ (reply.Refused err.Memory) (not live.small) p
 
@@ -137,9 +137,6 @@ module _ (P : At → Reply → Type 0) where
   fault_leads records live e fault.Device h loss = lose_leads records live _ _ h refl
   fault_leads records live e fault.NoMemory h loss = lose_leads records live _ _ h refl
   fault_leads records live e (fault.Busy by) h loss = absurd loss
-
-  pub commits_leads : (records : List Record) (live : Live) (whole : Bool) (own : Option Reply) → Ends whole own → Leads (commits records live whole own)
-  commits_leads records live whole own h = h
 
   -- ---- the statement is answered this
 

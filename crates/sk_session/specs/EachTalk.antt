@@ -35,12 +35,12 @@ EachTalks catalog number k rs ts = EachHas (Talks catalog) number k rs ts
 abbrev pub EachOver : List Table → ℕ → ℕ → List Record → List Talk → Type 0
 EachOver catalog number k rs ts = EachHas (Over catalog) number k rs ts
 
--- The last record is the place of a live transaction of this label, whose talk is the last; those before it are of transactions that are over.
+-- The last record is that of a live transaction of this label, whose talk is the last; those before it are of transactions that are over.
 pub record LastLive (catalog : List Table) (number : ℕ) (records : List Record) (talks : List Talk) (label : Label) (talk : Talk) : Type 0 where
   pub front : List Record
-  pub place : Record
+  pub open_record : Record
   pub before : List Talk
-  pub records_are : records ≡ front ++ place ∷ []
+  pub records_are : records ≡ front ++ open_record ∷ []
   pub talks_are : talks ≡ before ++ talk ∷ []
   pub each : EachOver catalog number 1 front before
   pub label_is : label ≡ label_at number (length front + 1)

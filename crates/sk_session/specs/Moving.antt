@@ -108,13 +108,13 @@ abbrev pub asks : List Record → Live → Job → Wish → Moved
 asks records live doing asked = record { records = records; at = at.Asking live doing; turn = turn.Ask asked }
 
 -- where a session stands behind a transaction: a loss inside BEGIN has to be acknowledged
-abbrev pub place_after : Bool → At
-place_after true = at.Ended
-place_after false = at.Outside
+abbrev pub at_after : Bool → At
+at_after true = at.Ended
+at_after false = at.Outside
 
 -- the transaction is over
 abbrev pub finish : List Record → Live → Ending → Reply → Bool → Moved
-finish records live how r lost = record { records = with_last records (record_of live how r); at = place_after lost; turn = turn.Said r }
+finish records live how r lost = record { records = with_last records (record_of live how r); at = at_after lost; turn = turn.Said r }
 
 abbrev pub on : EngineName → EngineCall → Wish
 on Mem asked = wish.Mem asked
@@ -430,8 +430,8 @@ begun label kind small s = record {
 }
 
 -- the record of a transaction that is live, as it began
-abbrev pub place_of : Label → TxKind → Record
-place_of label kind = record { label = label; kind = kind; mem = None; store = None; said = []; ending = ending.Open; drew_mem = None; drew_store = None; made = [] }
+abbrev pub record_begun : Label → TxKind → Record
+record_begun label kind = record { label = label; kind = kind; mem = None; store = None; said = []; ending = ending.Open; drew_mem = None; drew_store = None; made = [] }
 
 abbrev pub counter_wish : EngineName → Wish
 counter_wish Mem = wish.Reg reg.Begin
@@ -453,7 +453,7 @@ wished live (job.Commit c whole own) = wish_of c
 wished live (job.Leave e how r lost) = on e (call.DropTx live.label)
 
 unfoldable pub begins : List Record → Label → TxKind → Bool → Statement → Moved
-begins records label kind small s = asks (records ++ place_of label kind ∷ []) (begun label kind small s) job.Count (counter_wish (first_engine kind))
+begins records label kind small s = asks (records ++ record_begun label kind ∷ []) (begun label kind small s) job.Count (counter_wish (first_engine kind))
 
 abbrev pub engine_kind : EngineName → TxKind
 engine_kind Mem = kind.Mem

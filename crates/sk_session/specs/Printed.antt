@@ -21,7 +21,7 @@ use Rattle.sk_session.specs.declared.live.At.{At}
 use Rattle.sk_session.specs.declared.live.At.TheVariants as at
 use Rattle.sk_session.specs.declared.session.Session.{Session}
 use Rattle.sk_session.specs.Kept.{said_maybe}
-use Rattle.sk_session.specs.Moving.{said_now, is_begin, place_after, end_reply}
+use Rattle.sk_session.specs.Moving.{said_now, is_begin, at_after, end_reply}
 use Rattle.sk_session.specs.EachTalk.{AnswerFits}
 use Rattle.sk_session.specs.SoFar.{records_so_far}
 
@@ -88,16 +88,16 @@ Prints seat (line ∷ lines) said end =
 
 -- ---- between two lines
 
--- the last record is the place of a live transaction
-abbrev pub HasPlace : List Record → Type 0
-HasPlace records = (front : List Record) × (place : Record) × (records ≡ front ++ place ∷ [])
+-- the last record is that of a live transaction
+abbrev pub HasOpenRecord : List Record → Type 0
+HasOpenRecord records = (front : List Record) × (open_record : Record) × (records ≡ front ++ open_record ∷ [])
 
--- A transaction that is live between two lines is of BEGIN and answers no statement, and the last record is its place.
+-- A transaction that is live between two lines is of BEGIN and answers no statement, and the last record is its own.
 abbrev pub IsClear : List Record → At → Type 0
 IsClear records at.Outside = Unit {0}
 IsClear records at.Ended = Unit {0}
-IsClear records (at.Inside live) = (live.statement ≡ None) × (live.small ≡ false) × HasPlace records
-IsClear records (at.Stepping live c) = (live.statement ≡ None) × (live.small ≡ false) × HasPlace records
+IsClear records (at.Inside live) = (live.statement ≡ None) × (live.small ≡ false) × HasOpenRecord records
+IsClear records (at.Stepping live c) = (live.statement ≡ None) × (live.small ≡ false) × HasOpenRecord records
 IsClear records (at.Asking live doing) = ⊥
 
 -- these are the lines of a session so far
@@ -151,12 +151,12 @@ JobFits seat o live job.Select = Hears seat o live
 JobFits seat o live (job.Read e t key) = Hears seat o live
 JobFits seat o live (job.Put e writes done r) = Hears seat o live × IsTold seat r
 JobFits seat o live (job.Commit c whole own) = Closes seat o live whole own
-JobFits seat o live (job.Leave e how r lost) = Ends seat o r live (place_after lost)
+JobFits seat o live (job.Leave e how r lost) = Ends seat o r live (at_after lost)
 
 -- what the records said before the line is what they say still
 abbrev pub UnderWay : Seat → Option Statement → List Said → List Record → At → Type 0
 UnderWay seat o said records (at.Asking live doing) =
-    (front : List Record) × (place : Record) × (records ≡ front ++ place ∷ []) × (said ≡ said_in front ++ live.said) × JobFits seat o live doing
+    (front : List Record) × (open_record : Record) × (records ≡ front ++ open_record ∷ []) × (said ≡ said_in front ++ live.said) × JobFits seat o live doing
 UnderWay seat o said records _ = ⊥
 
 -- The session answers this line, which it heard at this seat, when its records said this; or it has answered it.

@@ -34,7 +34,7 @@ use Rattle.sk_session.specs.declared.live.Moved.{Moved}
 use Rattle.sk_session.specs.Kept.{listed, said_maybe}
 use Rattle.sk_session.specs.declared.turn.Turn.{Turn}
 use Rattle.sk_session.specs.declared.turn.Turn.TheVariants as turn_to
-use Rattle.sk_session.specs.Moving.{snapshot_of, said_now, used_of, with_last, is_begin, place_of, label_after, wished}
+use Rattle.sk_session.specs.Moving.{snapshot_of, said_now, used_of, with_last, is_begin, record_begun, label_after, wished}
 use Rattle.sk_session.specs.declared.live.Live.{Live}
 use Rattle.sk_session.specs.declared.live.Job.{Job}
 use Rattle.sk_session.specs.declared.live.Job.TheVariants as job
@@ -234,7 +234,7 @@ TakeKept catalog old _ got moved = Unit {0}
 -- it begins none.
 abbrev pub BegunAt : List Table → List Record → Label → Moved → At → Type 0
 BegunAt catalog old label moved (at.Asking live doing) =
-    (moved.records ≡ old ++ place_of live.label live.kind ∷ []) × (live.label ≡ label) × JobSpeaks catalog live doing [] × (moved.turn ≡ turn_to.Ask (wished live doing))
+    (moved.records ≡ old ++ record_begun live.label live.kind ∷ []) × (live.label ≡ label) × JobSpeaks catalog live doing [] × (moved.turn ≡ turn_to.Ask (wished live doing))
 BegunAt catalog old label moved at.Outside = moved.records ≡ old
 BegunAt catalog old label moved at.Ended = moved.records ≡ old
 BegunAt catalog old label moved _ = ⊥

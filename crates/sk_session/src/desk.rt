@@ -8,7 +8,7 @@ ghost use Rattle.sk_commit.specs.Fits.{WishFits};
 ghost use Rattle.sk_session.specs.Conversing.{is_early, IsAsked, TurnFits, Replied, Conversed, HasLeft, StandsLeft};
 ghost use Rattle.sk_session.specs.Printed.{LinePrints};
 ghost use Rattle.sk_session.specs.Heard.{LineRefuses};
-ghost use Rattle.sk_session.specs.Over.{OverStays};
+ghost use Rattle.sk_session.specs.Over.{OverStays, RestsStill};
 
 use crate::session::Session;
 use crate::turn::Turn;
@@ -75,8 +75,11 @@ pub fn converse<K: Desk>(
     // What the table of refusals refuses where the session stands is refused so, nothing else is answered with a word of the table, and the reply leads where it says.
     ensures refuses { IfOk result (λ said. LineRefuses catalog.now session.old (option_copied statement.entry) session.new said) }
 
-    // The records of transactions that are over stay, and perhaps there is one more.
+    // The records of transactions that are over stay, and perhaps one more is over, the last one.
     ensures over { IfOk result (λ said. OverStays session.old session.new) }
+
+    // A STEP between two transactions adds no record.
+    ensures rests { option_copied statement.entry ≡ None → IfOk result (λ said. RestsStill session.old session.new) }
 {
     let begun = session.start(alloc, catalog, statement);
     carry_on(alloc, session, catalog, desk, begun)
@@ -97,8 +100,11 @@ pub fn leave_with<K: Desk>(
     // As a STEP, it adds nothing to what the records say.
     ensures prints { IfOk result (λ said. LinePrints session.old None session.new said) }
 
-    // The records of transactions that are over stay, and perhaps there is one more.
+    // The records of transactions that are over stay, and perhaps one more is over, the last one.
     ensures over { IfOk result (λ said. OverStays session.old session.new) }
+
+    // Between two transactions it adds none.
+    ensures rests { IfOk result (λ said. RestsStill session.old session.new) }
 {
     let begun = session.leave(alloc);
     carry_on(alloc, session, catalog, desk, begun)

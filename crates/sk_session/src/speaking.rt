@@ -133,7 +133,7 @@ pub(crate) fn say(records: RecordList, live: Live, reply: Twin) -> Moved
     hears(records, live, reply)
 }
 
-/// The next of these writes is put, the one at this place. Behind the last one comes the reply.
+/// The next of these writes is put, the one at this index. Behind the last one comes the reply.
 #[tactic(auto, unfolding(crate::specs::Moving::put_next))]
 pub(crate) fn put_next(
     alloc: Global,

@@ -198,20 +198,6 @@ pub begins : {G : Type 0} (stands : G → EngineTable → List Entry → Type 0)
 begins stands x g e first is stood noted none empty =
     record { from = record { legal = tt; stood = noted first [] (subst (λ t. stands g t []) is (stood [])) none }; few = omega arith; journal = empty }
 
--- memory may be wanted where a commit begins
-pub close_fits : (c : EngineCall) → is_close c ≡ true → CallFits c (Fault fault.NoMemory)
-close_fits (call.Close tx) is = tt
-close_fits (call.Open tx s) is = absurd (false≢true is)
-close_fits (call.Get tx t key) is = absurd (false≢true is)
-close_fits (call.Scan tx t) is = absurd (false≢true is)
-close_fits (call.Put tx t key row) is = absurd (false≢true is)
-close_fits (call.Stamp tx n) is = absurd (false≢true is)
-close_fits (call.Void tx n) is = absurd (false≢true is)
-close_fits (call.DropTx tx) is = absurd (false≢true is)
-close_fits call.Horizon is = absurd (false≢true is)
-close_fits (call.Records from to) is = absurd (false≢true is)
-close_fits (call.Purge upto) is = absurd (false≢true is)
-
 -- the calls that are made on an engine are those that are entered
 pub own_entries : (name : EngineName) (c : EngineCall) (reply : EngineReply) → entered_by c (entered_reply reply) ≡ calls_in name (made_call name c reply)
 own_entries Mem c Done = refl

@@ -38,9 +38,6 @@ looked p q xs Answer h u = (u.0, record { stands = (h u.0 u.1.stands).1; all = u
 pub begins : (p q : Points) (xs : List Point) (n : ℕ) → Answers StandsFor p q (λ r. n ≡ r.mem) (λ r. r) → Registered (log p xs) reg.Begin (told.Number n) (log q xs)
 begins p q xs n h r l = let k = h r l.stands in (r, (k.0, refl), record { stands = k.1; all = l.all })
 
-pub store_nows : (p q : Points) (xs : List Point) (n : ℕ) → Answers StandsFor p q (λ r. n ≡ r.store) (λ r. r) → Registered (log p xs) reg.StoreNow (told.Number n) (log q xs)
-store_nows p q xs n h r l = let k = h r l.stands in (r, (k.0, refl), record { stands = k.1; all = l.all })
-
 -- ---- the points behind a call
 
 points_if : (r : Regs) (q : Point) (b : Bool) → (after_all r (cond b (append_steps r q) [])).points ≡ r.points ++ cond b (q ∷ []) []
@@ -206,13 +203,3 @@ cuts p p1 p2 p3 xs ys x y m n found h le k le2 g more r l =
 -- looks at the counters leave it as it was
 pub looked_same : (p p1 p2 : Points) (xs : List Point) (A B : Regs → Type 0) → Answers StandsFor p p1 A (λ r. r) → Answers StandsFor p1 p2 B (λ r. r) → LogsSame (log p xs) (log p2 xs)
 looked_same p p1 p2 xs A B h k r l = record { stands = (k r (h r l.stands).1).1; all = l.all }
-
-pub shown : (p q : Points) (xs : List Point) (o : Point) → Answers StandsFor p q (λ r. o ≡ oldest_of r) (λ r. r) → ShowsOldest (log p xs) o (log q xs)
-shown p q xs o h r l = let k = h r l.stands in (k.0, record { stands = k.1; all = l.all })
-
--- it is still in use
-pub cut_used : (old new : Logged) (x y : ℕ) (found : CutFound) → IsLogged old → CutsLog old x y found new → IsLogged new
-cut_used old new x y found u g = (after_cut u.0 x y u.0.store, (g u.0 u.1).3)
-
-pub same_used : (old new : Logged) → IsLogged old → LogsSame old new → IsLogged new
-same_used old new u g = (u.0, g u.0 u.1)

@@ -10,7 +10,7 @@ use Rattle.sk_model.specs.declared.engine.EngineName.TheVariants.{Mem}
 use Rattle.sk_model.specs.declared.point.Point.{Point}
 use Rattle.sk_model.proofs.Lists.{Each}
 use Rattle.sk_weave.specs.Points.{Climbs, Staircase}
-use Rattle.sk_weave.specs.Reads.{number_at}
+use Rattle.sk_linked.specs.Reads.{number_at}
 use Rattle.sk_recorded.specs.Joined.{from_number}
 
 -- from 0 on are all

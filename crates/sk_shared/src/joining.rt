@@ -1,7 +1,7 @@
 //! The other number of each commit over both engines.
 
 ghost use Rattle.std.specs.Prelude.{◌≡◌, IfOk};
-ghost use Rattle.sk_weave.specs.Reads.{number_at};
+ghost use Rattle.sk_linked.specs.Reads.{number_at};
 ghost use Rattle.sk_recorded.specs.Joined.{other_at, from_number, other_first, other_number, set_other, joined};
 ghost use Rattle.sk_model.specs.Stamped.{number_in};
 

@@ -53,17 +53,6 @@ put_cells cells k x s le =
     (λ e. ap (cell_at (put_at cells k x)) e ∙ put_same cells k x le)
     (λ e. put_other cells k s x le e)
 
-none_here : (cells : OnePage) (k : ℕ) → cell_at (slice_set cells k None) k ≡ None
-none_here [] k = refl
-none_here (y ∷ ys) zero = refl
-none_here (y ∷ ys) (suc k) = none_here ys k
-
-pub empty_cells : (cells : OnePage) (k s : ℕ) → cell_at (slice_set cells k None) s ≡ cond (s == k) None (cell_at cells s)
-empty_cells cells k s =
-    either s k (λ b. cell_at (slice_set cells k None) s ≡ cond b None (cell_at cells s))
-    (λ e. ap (cell_at (slice_set cells k None)) e ∙ none_here cells k)
-    (λ e. get_or-set_other cells k s None None e)
-
 -- a slot that is in use is one of the page's
 pub used_within : (cells : OnePage) (k : ℕ) → IsSome (cell_at cells k) → k ≤ length cells
 used_within [] k e = absurd cc
@@ -82,30 +71,6 @@ changed_page pages page slot x new lt h q s =
     (λ e. ap (λ (p : ℕ). cond (s == slot) x (cells_of pages p s)) e ∙ sym (h s) ∙ ap (λ (cells : OnePage). cell_at cells s) (sym (ap (λ (p : ℕ). get_or (slice_set pages page new) p []) e ∙ get_or-set_same pages page new [] lt)))
     (λ e. ap (λ (cells : OnePage). cell_at cells s) (sym (get_or-set_other pages page q new [] e)))
 
-first_alone : (x : Option (List ℕ)) (s : ℕ) → cond (s == 0) x None ≡ cell_at (x ∷ []) s
-first_alone x s = either s 0 (λ b. cond b x None ≡ cell_at (x ∷ []) s) (λ e. sym (ap (cell_at (x ∷ [])) e)) (λ e. past s e)
-  where
-    past : (q : ℕ) → (q ≡ 0 → ⊥) → None ≡ cell_at (x ∷ []) q
-    past zero e = absurd (e refl)
-    past (suc q) e = refl
-
-pub added_page : (pages : List OnePage) (x : Option (List ℕ)) → Changes pages (pages ++ (x ∷ []) ∷ []) (length pages) 0 x
-added_page pages x q s =
-    either q (length pages) (λ b. cond (b && (s == 0)) x (cells_of pages q s) ≡ cells_of (pages ++ (x ∷ []) ∷ []) q s)
-    (λ e. ap (λ (c : Option (List ℕ)). cond (s == 0) x c) (past_end pages q s (omega arith)) ∙ first_alone x s
-    ∙ ap (λ (cells : OnePage). cell_at cells s) (sym (ap (λ (p : ℕ). get_or (pages ++ (x ∷ []) ∷ []) p []) (let z : q ≡ length pages + 0 = omega arith in z) ∙ get_or-append-add pages ((x ∷ []) ∷ []) 0 [])))
-    (λ e. there e (cases_lt q (length pages)))
-  where
-    beyond : (ps : List OnePage) (p : ℕ) → (p ≡ length ps → ⊥) → length ps ≤ p → length (ps ++ (x ∷ []) ∷ []) ≤ p
-    beyond [] zero e le = absurd (e refl)
-    beyond [] (suc p) e le = omega arith
-    beyond (y ∷ ys) zero e le = absurd (omega arith)
-    beyond (y ∷ ys) (suc p) e le = let h = beyond ys p (λ s. e (ap suc s)) (omega arith) in omega arith
-
-    there : (q ≡ length pages → ⊥) → ((q < length pages) ⊎ (length pages ≤ q)) → cells_of pages q s ≡ cells_of (pages ++ (x ∷ []) ∷ []) q s
-    there e (inl lt) = ap (λ (cells : OnePage). cell_at cells s) (sym (get_or_append_left pages ((x ∷ []) ∷ []) [] q lt))
-    there e (inr le) = past_end pages q s le ∙ sym (past_end (pages ++ (x ∷ []) ∷ []) q s (beyond pages q e le))
-
 -- ---- the calls of a page
 
 pub changed_by_put : (pages : List OnePage) (page slot : ℕ) (x : Option (List ℕ)) (old new : OnePage) → page < length pages → old ≡ get_or pages page old → slot ≤ length old → new ≡ put_at old slot x → Changes pages (slice_set pages page new) page slot x
@@ -118,24 +83,6 @@ changed_by_put pages page slot x old new lt at le e =
 pub used_at : (pages : List OnePage) (page slot : ℕ) (old : OnePage) → page < length pages → old ≡ get_or pages page old → is_some (cells_of pages page slot) ≡ true → IsSome (cell_at old slot)
 used_at pages page slot old lt at used = ap is_some (ap (λ (cells : OnePage). cell_at cells slot) at ∙ at_page pages page slot old lt) ∙ used
 
-pub none_shorter : (cell : Option (List ℕ)) (bytes : List ℕ) → is_some cell ≡ false → IsShorter cell bytes
-none_shorter None bytes e = tt
-none_shorter (Some x) bytes e = absurd cc
-
--- what a page has no room for is longer than the cell in its place
-pub is_shorter : (pages : List OnePage) (page slot : ℕ) (bytes : List ℕ) (old : OnePage) (free need : ℕ) → page < length pages → old ≡ get_or pages page old → need ≡ length bytes - length (bytes_of (cell_at old slot)) → free < need → IsShorter (cells_of pages page slot) bytes
-is_shorter pages page slot bytes old free need lt at e less = subst (λ (c : Option (List ℕ)). IsShorter c bytes) (ap (λ (cells : OnePage). cell_at cells slot) at ∙ at_page pages page slot old lt) (from (cell_at old slot) e)
-  where
-    from : (c : Option (List ℕ)) → need ≡ length bytes - length (bytes_of c) → IsShorter c bytes
-    from None e = tt
-    from (Some x) e = omega arith
-
-pub changed_by_remove : (pages : List OnePage) (page slot : ℕ) (old new : OnePage) → page < length pages → old ≡ get_or pages page old → new ≡ slice_set old slot None → Changes pages (slice_set pages page new) page slot None
-changed_by_remove pages page slot old new lt at e =
-    changed_page pages page slot None new lt
-    (λ s. ap (λ (cells : OnePage). cell_at cells s) e ∙ empty_cells old slot s
-    ∙ ap (λ (c : Option (List ℕ)). cond (s == slot) None c) (ap (λ (cells : OnePage). cell_at cells s) at ∙ at_page pages page s old lt))
-
 -- a page without cells has room for each cell that is small enough
 pub fits_new : (cells : OnePage) (n : ℕ) → cells ≡ [] → n ≤ 4084 → free cells < n + 4 → ⊥
 unfolding free
@@ -146,6 +93,3 @@ unfolding put_at
 first_of_new cells k x e = ap (λ (cs : OnePage). put_at cs k x) e
 
 -- ---- what pages have
-
-pub has_changed : (old new : List OnePage) (cells : Cells) (page slot : ℕ) (x : Option (List ℕ)) → HasCells old cells → Changes old new page slot x → HasCells new (with_cell cells page slot x)
-has_changed old new cells page slot x h change q s = ap (λ (c : Option (List ℕ)). cond ((q == page) && (s == slot)) x c) (h q s) ∙ change q s

@@ -12,11 +12,3 @@ use Rattle.sk_store.specs.Writes.{IsRefusal}
 
 pub removed : (cells : Cells) (was : Option Spot) (at : Spot) → was ≡ Some at → (p s : ℕ) → is_at was p s ≡ false → with_cell cells at.page at.slot None p s ≡ cells p s
 removed cells was at e p s off = cond-false ((p == at.page) && (s == at.slot)) None (cells p s) (ap (λ w. is_at w p s) (sym e) ∙ off)
-
--- a count that rose later rose
-pub refusal_from : (first before now : ℕ) (e : EngineFault) → first ≤ before → IsRefusal before now e → IsRefusal first now e
-refusal_from first before now (fault.Old a b) le r = r
-refusal_from first before now (fault.Busy by) le r = r
-refusal_from first before now (fault.Conflict by why) le r = r
-refusal_from first before now fault.NoMemory le r = r
-refusal_from first before now fault.Device le r = omega arith

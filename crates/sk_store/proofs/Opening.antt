@@ -9,6 +9,7 @@ use Rattle.std.specs.declared.cmp.Ordering.{Ordering}
 use Rattle.std.specs.declared.cmp.Ordering.TheVariants.{Less, Equal, Greater}
 use Rattle.std.proofs.lemmas.Bool.{and_parts, cases_eq, cond-false, cond-true, eq-eqb, ne_eqb}
 use Rattle.std.proofs.lemmas.List.{length-take-le, take_more, take_rest}
+use Rattle.std.proofs.lemmas.Float.{T_from_true}
 use Rattle.sk_rows.specs.declared.value.Value.{Value}
 use Rattle.sk_rows.specs.declared.table.Table.{Table}
 use Rattle.sk_rows.specs.Values.{value_cmp}
@@ -96,10 +97,6 @@ from_T : (b : Bool) → T b → b ≡ true
 from_T true h = refl
 from_T false h = absurd h
 
-to_T : (b : Bool) → b ≡ true → T b
-to_T true e = tt
-to_T false e = absurd cc
-
 in_order : (e : Value × RowOf) (rest : KeyedRows) → T (is_sorted value_cmp (e ∷ rest)) → (below_all value_cmp e.0 rest ≡ true) × (is_sorted value_cmp rest ≡ true)
 in_order e rest h = and_parts (below_all value_cmp e.0 rest) (is_sorted value_cmp rest) (from_T (is_sorted value_cmp (e ∷ rest)) h)
 
@@ -109,7 +106,7 @@ first_new tables chains t e rest h = record { there = h.there; ordered = tt; fit
 pub rest_new : (tables : List Table) (chains : Chains) (start t : ℕ) (e : Value × RowOf) (rest : KeyedRows) → AreNew tables chains t (e ∷ rest) → AreNew tables (with_rows start t (e ∷ []) chains) t rest
 rest_new tables chains start t e rest h = record {
   there = h.there;
-  ordered = to_T (is_sorted value_cmp rest) (in_order e rest h.ordered).1;
+  ordered = T_from_true (is_sorted value_cmp rest) (in_order e rest h.ordered).1;
   fit = h.fit.1;
   free = free rest (in_order e rest h.ordered).0 h.free.1;
 }

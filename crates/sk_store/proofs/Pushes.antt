@@ -29,26 +29,9 @@ use Rattle.sk_store.proofs.Readings.{holds_as}
 
 -- ---- whom a write meets
 
-rival_bare : (by : Label) (top : Option Version) (other : Option Blocked) → rival_or by top other ≡ rival_or by (bare top) other
-rival_bare by None other = refl
-rival_bare by (Some v) other = refl
-
 pub past_bare : (s : ℕ) (o : Option Version) → past_of s o ≡ past_of s (bare o)
 past_bare s None = refl
 past_bare s (Some v) = refl
-
-by_bare : (by : Label) (o : Option Version) → is_by by o ≡ is_by by (bare o)
-by_bare by None = refl
-by_bare by (Some v) = refl
-
-pub conflict_is : {told : Bool} {cells : Cells} {columns : List Column} {key : Value} {h : Head} {c : Chained} (by : Label) (s : ℕ) → RowShows told cells columns key h c
-    → conflict c by s ≡ rival_or by (top_of h.holds) (past_of s (last_of h.newest))
-conflict_is {told} {cells} {columns} {key} {h} {c} by s shows =
-    rival_bare by c.top (past_of s (last_in None c.settled)) ∙ ap (λ t. rival_or by t (past_of s (last_in None c.settled))) shows.top
-    ∙ ap (λ x. rival_or by (top_of h.holds) x) (past_bare s (last_in None c.settled) ∙ ap (past_of s) shows.last)
-
-pub by_is : {told : Bool} {cells : Cells} {columns : List Column} {key : Value} {h : Head} {c : Chained} (by : Label) → RowShows told cells columns key h c → is_by by c.top ≡ is_by by (top_of h.holds)
-by_is {told} {cells} {columns} {key} {h} {c} by shows = by_bare by c.top ∙ ap (is_by by) shows.top
 
 -- ---- over a version that is not stamped
 
@@ -117,14 +100,6 @@ same_shows told cells columns key h c log shows seen same = record {
     holds Dropped k = λ s. k s ∙ sym (seen h.older s)
 
 -- ---- a refusal
-
-pub refused_row : {S : Type 0} (has : S → Cells → Type 0) (told : Bool) (before now : ℕ) (new : S) (cells : Cells) (columns : List Column) (key : Value) (was : Option Spot) (h : Head) (c : Chained) (by : Label) (s : ℕ) (row : Option RowOf)
-    (e : EngineFault) → IsRefusal before now e → Left has told new cells columns key was h c → RowPushed has told before now new cells columns key was h c by s row (Err e)
-refused_row has told before now new cells columns key was h c by s row (fault.Old a b) r l = absurd r
-refused_row has told before now new cells columns key was h c by s row (fault.Busy other) r l = absurd r
-refused_row has told before now new cells columns key was h c by s row (fault.Conflict other why) r l = absurd r
-refused_row has told before now new cells columns key was h c by s row fault.NoMemory r l = l
-refused_row has told before now new cells columns key was h c by s row fault.Device r l = (r, l)
 
 -- a write, said of heads that are the same
 pub pushed_as : {S : Type 0} (has : S → Cells → Type 0) (told : Bool) (before now : ℕ) (new : S) (cells : Cells) (columns : List Column) (key : Value) (c : Chained) (by : Label) (s : ℕ) (row : Option RowOf) (result : Result Bool EngineFault)

@@ -46,14 +46,6 @@ found_is by s (Some v) st = go (same_label by v.by) (is_closed_below s v.state)
 pub reading_is : (c : Chained) (holds : Holds) (by : Label) (s : ℕ) → bare c.top ≡ top_of holds → reading c by s ≡ by_sight (sight_of by s (top_of holds)) (row_in c.top) (row_in (last_upto s c.settled))
 reading_is c holds by s e = found_is by s c.top (last_upto s c.settled) ∙ ap (λ t. by_sight (sight_of by s t) (row_in c.top) (row_in (last_upto s c.settled))) e
 
--- the row of an undo record is one of the key
-pub seen_fits : (columns : List Column) (key : Value) (log : Log) (from : Option ℕ) (n : ℕ) → ((at : ℕ) → MayBe columns key (row_of (record_at log at))) → MayBe columns key (row_seen log from n)
-seen_fits columns key log from n fit = go (newest_for log from n)
-  where
-    go : (o : Option ℕ) → MayBe columns key (row_at log o)
-    go None = tt
-    go (Some at) = fit at
-
 module _ (told : Bool) (cells : Cells) (columns : List Column) (key : Value) (h : Head) (c : Chained) (shows : RowShows told cells columns key h c) (is_told : told ≡ true) where
   pub holds_as : (x : Holds) → h.holds ≡ x → HoldsRow cells columns key h c x
   holds_as x e = subst (HoldsRow cells columns key h c) e (shows.holds is_told)
@@ -65,30 +57,6 @@ module _ (told : Bool) (cells : Cells) (columns : List Column) (key : Value) (h 
       go Settled f = absurd (let no : Stamped ≡ Own = sym (ap (λ z. sight_of by s (top_of z)) f) ∙ e in cc)
       go Dropped f = absurd (let no : Stamped ≡ Own = sym (ap (λ z. sight_of by s (top_of z)) f) ∙ e in cc)
       go (Pending other floor) f = (holds_as (Pending other floor) f).0
-
-  -- the newest stamped version is in the cell, for snapshots from its number on
-  pub cell_here : (n : ℕ) → is_upto n (settled_number h.holds h.newest) ≡ true → IsCell cells columns key h.cell (row_in (last_upto n c.settled))
-  cell_here n e = go h.holds refl
-    where
-      go : (x : Holds) → h.holds ≡ x → IsCell cells columns key h.cell (row_in (last_upto n c.settled))
-      go Dropped f = absurd (let no : false ≡ true = sym (ap (λ z. is_upto n (settled_number z h.newest)) f) ∙ e in cc)
-      go (Pending other floor) f = absurd (let no : false ≡ true = sym (ap (λ z. is_upto n (settled_number z h.newest)) f) ∙ e in cc)
-      go Settled f =
-          let k = holds_as Settled f in
-          let low : nat_le k.0.n n ≡ true = sym (ap (λ z. is_upto n (settled_number z h.newest)) f ∙ ap (λ z. is_upto n (number_of z)) k.2) ∙ e in
-          subst (IsCell cells columns key h.cell) (sym (k.4 n ∙ ap (λ b. cond b k.1 (row_seen h.undo h.older n)) low)) k.3
-
-  -- and else it is among the undo records
-  pub undo_here : (n : ℕ) → is_upto n (settled_number h.holds h.newest) ≡ false → row_seen h.undo h.older n ≡ row_in (last_upto n c.settled)
-  undo_here n e = go h.holds refl
-    where
-      go : (x : Holds) → h.holds ≡ x → row_seen h.undo h.older n ≡ row_in (last_upto n c.settled)
-      go Dropped f = sym (holds_as Dropped f n)
-      go (Pending other floor) f = sym ((holds_as (Pending other floor) f).1 n)
-      go Settled f =
-          let k = holds_as Settled f in
-          let past : nat_le k.0.n n ≡ false = sym (ap (λ z. is_upto n (settled_number z h.newest)) f ∙ ap (λ z. is_upto n (number_of z)) k.2) ∙ e in
-          sym (k.4 n ∙ ap (λ b. cond b k.1 (row_seen h.undo h.older n)) past)
 
 -- a row that was read as a reply
 pub gives : (told : Bool) (before now : ℕ) (columns : List Column) (key : Value) (due : Option RowOf) (result : Result (Option RowOf) EngineFault)

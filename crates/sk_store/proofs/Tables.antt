@@ -140,17 +140,6 @@ module _ (told : Bool) (has : Cells → Type 0) (kept : List Table) (maps : List
       go true f = inr (inl (bare_found told h.all.cells (columns_at tables t) key (chains t key) by s r f))
       go false f = inr (inr (f, subst (λ d. IsRow tables t key d (Some (Found None))) (sym (bare_reading told h.all.cells (columns_at tables t) key (chains t key) by s r)) tt))
 
-  pub none_given_at : (before now : ℕ) (key : Value) (n : ℕ) → no_head ≡ head_at maps t key
-      → GivesReply told before now (IsRow tables t key (Found (row_in (last_upto n (chains t key).settled))) (Some (Found None))) (Found (row_in (last_upto n (chains t key).settled))) (Some (Found None))
-  none_given_at before now key n e = go told refl
-    where
-      r : RowShows told h.all.cells (columns_at tables t) key no_head (chains t key)
-      r = bare_shown key e
-
-      go : (b : Bool) → told ≡ b → GivesReply told before now (IsRow tables t key (Found (row_in (last_upto n (chains t key).settled))) (Some (Found None))) (Found (row_in (last_upto n (chains t key).settled))) (Some (Found None))
-      go true f = inr (inl (ap Found (bare_row told h.all.cells (columns_at tables t) key (chains t key) (record { session = 0; k = 0 }) n r f)))
-      go false f = inr (inr (f, tt))
-
   -- no rows are read where there are no heads
   pub nothing_scanned : (before now : ℕ) (by : Label) (s : ℕ) (rows : KeyedRows) → ((key : Value) → no_head ≡ head_at maps t key) → rows ≡ [] → Scans told before now tables t (λ q. reading (chains t q) by s) (Some (Rows rows))
   nothing_scanned before now by s rows e none = subst (λ rs. Scans told before now tables t (λ q. reading (chains t q) by s) (Some (Rows rs))) (sym none) (go told refl)

@@ -1,6 +1,7 @@
 -- Which tables take a row.
 use Rattle.std.specs.Prelude.{◌≡◌, ℕ, zero, suc, List, [], ◌∷◌, Option, Some, None, Bool, true, false, ◌&&◌, slice_get}
 use Rattle.std.proofs.Common.{refl, sym, ap, subst, ◌∙◌}
+use Rattle.std.specs.Cmp.{both_ways}
 use Rattle.sk_rows.specs.declared.value.Value.{Value}
 use Rattle.sk_rows.specs.declared.table.Table.{Table}
 use Rattle.sk_model.specs.Database.{RowOf}
@@ -21,14 +22,9 @@ columns_found [] t found is = none_some (sym is)
 columns_found (x ∷ xs) zero found is = ap (λ (y : Table). y.columns) (some_is (sym is))
 columns_found (x ∷ xs) (suc t) found is = columns_found xs t found is
 
-same_truth : (a b : Bool) → (a ≡ true → b ≡ true) → (b ≡ true → a ≡ true) → a ≡ b
-same_truth true b f g = sym (f refl)
-same_truth false true f g = g refl
-same_truth false false f g = refl
-
 row_for : (e : EngineTable) (t : ℕ) (key : Value) (row : Option RowOf) (r : Bool) → IsRowFor (columns_at e.catalog t) key row r → r ≡ has_row e t key row
 row_for e t key None r h = h
-row_for e t key (Some row) r h = same_truth r (has_row e t key (Some row)) (λ a. (fit e t key row).1 (h.0 a)) (λ a. h.1 ((fit e t key row).0 a))
+row_for e t key (Some row) r h = both_ways r (has_row e t key (Some row)) (λ a. (fit e t key row).1 (h.0 a)) (λ a. h.1 ((fit e t key row).0 a))
 
 pub goes_nowhere : (e : EngineTable) (t : ℕ) (key : Value) (row : Option RowOf) → None ≡ slice_get e.catalog t → (has_key e t key && has_row e t key row) ≡ false
 goes_nowhere e t key row is = ap (λ cs. fits_key cs key && has_row e t key row) (columns_none e.catalog t is)

@@ -1,4 +1,4 @@
-pub mod Standing
+pub mod RowState
 pub mod Entries
 pub mod Versions
 pub mod Fitting

@@ -4,11 +4,11 @@ ghost use Rattle.std.specs.Prelude.{◌≡◌, IfOk, OnOk};
 ghost use Rattle.sk_model.specs.declared.call.EngineCall.TheVariants as call;
 ghost use Rattle.sk_model.specs.Engine.{opening_in};
 ghost use Rattle.sk_model.specs.EngineChanges.{change, restand, put_version, without_opening, closed_in};
-ghost use Rattle.sk_table.specs.Standing.{state_of};
+ghost use Rattle.sk_table.specs.RowState.{state_of};
 ghost use Rattle.sk_table.specs.Versions.{is_own};
 
 use crate::entries::{find, put};
-use crate::standing::{Standing, is_open};
+use crate::row_state::{RowState, is_open};
 use crate::table::EngineTable;
 use crate::version::{Opening, Version, same_label};
 use sk_model::{EngineCall, Label, Write};
@@ -21,7 +21,7 @@ fn restand(
     alloc: Global,
     versions: Vec<Version>,
     tx: Label,
-    standing: Standing,
+    standing: RowState,
 ) -> Result<Vec<Version>, NoMemory>
     ensures { IfOk result (λ vs. vs.items ≡ restand tx (state_of standing) versions.items) }
 {
@@ -83,7 +83,7 @@ fn put_version(
             by: tx,
             snapshot,
             write: write.copy(alloc)?,
-            standing: Standing::Open,
+            standing: RowState::Open,
         })?;
     }
     Ok(out)
@@ -164,13 +164,13 @@ impl EngineTable {
         let mut table = self;
         let floor = table.greatest;
         let versions = replace(&mut table.versions, Vec::new(alloc));
-        table.versions = restand(alloc, versions, tx, Standing::Closed(floor))?;
+        table.versions = restand(alloc, versions, tx, RowState::Closed(floor))?;
         close_in(&mut table.openings, tx, floor)?;
         Ok(table)
     }
 
     /// The transaction ends: its versions get this standing, and its opening goes.
-    fn ended(self, alloc: Global, tx: Label, standing: Standing) -> Result<EngineTable, NoMemory>
+    fn ended(self, alloc: Global, tx: Label, standing: RowState) -> Result<EngineTable, NoMemory>
         ensures { IfOk result (λ t. t ≡ record self { versions = restand tx (state_of standing) self.versions; openings = without_opening tx self.openings }) }
     {
         let mut table = self;
@@ -184,7 +184,7 @@ impl EngineTable {
     fn stamped(self, alloc: Global, tx: Label, n: u32) -> Result<EngineTable, NoMemory>
         ensures { IfOk result (λ t. t ≡ change self (call.Stamp tx n)) }
     {
-        let mut table = self.ended(alloc, tx, Standing::Stamped(n))?;
+        let mut table = self.ended(alloc, tx, RowState::Stamped(n))?;
         put(&mut table.stamped, n, tx)?;
         Ok(table)
     }
@@ -192,7 +192,7 @@ impl EngineTable {
     fn voided(self, alloc: Global, tx: Label, n: u32) -> Result<EngineTable, NoMemory>
         ensures { IfOk result (λ t. t ≡ change self (call.Void tx n)) }
     {
-        let mut table = self.ended(alloc, tx, Standing::Dropped)?;
+        let mut table = self.ended(alloc, tx, RowState::Dropped)?;
         table.voided.push(n)?;
         Ok(table)
     }
@@ -220,7 +220,7 @@ impl EngineTable {
             EngineCall::Close { tx } => self.closed(alloc, *tx),
             EngineCall::Stamp { tx, n } => self.stamped(alloc, *tx, *n),
             EngineCall::Void { tx, n } => self.voided(alloc, *tx, *n),
-            EngineCall::DropTx { tx } => self.ended(alloc, *tx, Standing::Dropped),
+            EngineCall::DropTx { tx } => self.ended(alloc, *tx, RowState::Dropped),
             EngineCall::Purge { upto } => self.purged(*upto),
             EngineCall::Get { .. }
             | EngineCall::Scan { .. }

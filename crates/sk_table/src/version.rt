@@ -6,10 +6,10 @@ ghost use Rattle.sk_model.specs.Records.{same_label};
 ghost use Rattle.sk_model.specs.Engine.{is_of};
 ghost use Rattle.sk_model.specs.EngineReplies.{is_seen, is_blocking, is_rival, is_stamped_with};
 ghost use Rattle.sk_model.specs.EngineChanges.{restood};
-ghost use Rattle.sk_table.specs.Standing.{state_of};
+ghost use Rattle.sk_table.specs.RowState.{state_of};
 
-use crate::standing::{
-    Standing, is_closed_below, is_stamped_with as is_standing_with, is_undecided, is_upto,
+use crate::row_state::{
+    RowState, is_closed_below, is_stamped_with as is_standing_with, is_undecided, is_upto,
 };
 use sk_model::{Label, Write};
 use sk_rows::Value;
@@ -21,12 +21,12 @@ pub struct Version {
     pub(crate) by: Label,
     pub(crate) snapshot: u32,
     pub(crate) write: Write,
-    pub(crate) standing: Standing,
+    pub(crate) standing: RowState,
 }
 
 impl Model for Version {
     ghost use Rattle.sk_model.specs.Engine.{Version as AnyVersion};
-    ghost use Rattle.sk_table.specs.Standing.{state_of};
+    ghost use Rattle.sk_table.specs.RowState.{state_of};
 
     ghost Value = { AnyVersion };
 
@@ -100,7 +100,7 @@ impl Version {
     }
 
     /// The version, with a new standing where it is the transaction's and open or closed.
-    pub(crate) fn restood(self, tx: Label, standing: Standing) -> Version
+    pub(crate) fn restood(self, tx: Label, standing: RowState) -> Version
         ensures { result ≡ restood tx (state_of standing) self }
     {
         let mine = same_label(tx, self.by) && is_undecided(self.standing);

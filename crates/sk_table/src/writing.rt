@@ -5,9 +5,9 @@ ghost use Rattle.std.specs.Option.{option_copied};
 ghost use Rattle.std.specs.List.{filter, find as find_first};
 ghost use Rattle.sk_model.specs.Engine.{is_of, is_stamped};
 ghost use Rattle.sk_model.specs.EngineReplies.{put_answer, conflict_or, past_of, past_or, last_in, is_rival};
-ghost use Rattle.sk_table.specs.Standing.{state_of};
+ghost use Rattle.sk_table.specs.RowState.{state_of};
 
-use crate::standing::{Standing, is_stamped, why_undecided};
+use crate::row_state::{RowState, is_stamped, why_undecided};
 use crate::table::EngineTable;
 use crate::version::Version;
 use sk_model::{EngineFault, EngineReply, Label, Why, Write};
@@ -38,11 +38,11 @@ fn newest_stamped<'a>(versions: &'a [Version], write: &Write) -> Option<&'a Vers
 }
 
 /// A stamped version past the snapshot is in the way.
-fn past_of(snapshot: u32, by: Label, standing: Standing) -> EngineReply
+fn past_of(snapshot: u32, by: Label, standing: RowState) -> EngineReply
     ensures { result ≡ past_of snapshot by (state_of standing) }
 {
     match standing {
-        Standing::Stamped(n) => {
+        RowState::Stamped(n) => {
             if snapshot < n {
                 EngineReply::Fault(EngineFault::Conflict {
                     by,
@@ -55,7 +55,7 @@ fn past_of(snapshot: u32, by: Label, standing: Standing) -> EngineReply
                 EngineReply::Done
             }
         }
-        Standing::Open | Standing::Closed(_) | Standing::Dropped => EngineReply::Done,
+        RowState::Open | RowState::Closed(_) | RowState::Dropped => EngineReply::Done,
     }
 }
 

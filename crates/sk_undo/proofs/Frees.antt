@@ -226,17 +226,6 @@ abbrev pub turns : Log → Option ℕ → ℕ
 turns log None = 0
 turns log (Some at) = suc (bound log (Some at))
 
-pub fewer_turns : (log : Log) (at : ℕ) → AreLinked log → turns (slice_set log at None) (older_of (record_at log at)) < turns log (Some at)
-fewer_turns log at h = from (record_at log at) refl
-  where
-    most : (l : Log) (o : Option ℕ) → turns l o ≤ suc (bound l o)
-    most l None = omega arith
-    most l (Some p) = omega arith
-
-    from : (s : Option Undo) → record_at log at ≡ s → turns (slice_set log at None) (older_of s) < suc (bound_of s)
-    from None e = omega arith
-    from (Some u) e = let a = shorter log at u h e in let b = set_bound log at u.older in let m = most (slice_set log at None) u.older in omega arith
-
 -- ---- a record comes
 
 named_older : (log : Log) (older : Option ℕ) (n q : ℕ) → older_of (record_at (named log older n) q) ≡ older_of (record_at log q)

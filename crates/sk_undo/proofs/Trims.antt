@@ -106,9 +106,3 @@ pub at_trim : (upto : ℕ) (xs : Log) (i : ℕ) (d : Option Undo) → i < length
 at_trim upto [] i d h = absurd (omega arith)
 at_trim upto (y ∷ ys) zero d h = refl
 at_trim upto (y ∷ ys) (suc i) d h = at_trim upto ys i d (omega arith)
-
-pub all_trimmed : (upto : ℕ) (xs : Log) (i : ℕ) → length xs ≤ i → map (trimmed upto) (take i xs) ++ drop i xs ≡ map (trimmed upto) xs
-all_trimmed upto [] zero h = refl
-all_trimmed upto [] (suc i) h = refl
-all_trimmed upto (y ∷ ys) zero h = absurd (omega arith)
-all_trimmed upto (y ∷ ys) (suc i) h = ap (λ (zs : Log). trimmed upto y ∷ zs) (all_trimmed upto ys i (omega arith))

@@ -18,17 +18,11 @@ pub mod Holding
 pub mod Upto
 pub mod Engines
 pub mod Crossings
--- what a transaction reads and writes over the list: theory for others too
-pub mod Held
-pub mod Keys
-pub mod Writers
-pub mod Wins
 -- a registry of points, and what comes ahead of a transaction: theory for others too
 pub mod Registers
 pub mod Aheads
 -- worked examples
 pub mod Premises
 mod WeaveExamples
-mod ReadExamples
 mod PrefixExamples
 mod AheadExamples

@@ -1,7 +1,7 @@
 use Rattle.std.proofs.Common.{◌≡◌, ◌++◌, drop}
 use Rattle.sk_model.specs.Talks.{puts_in}
 use Rattle.sk_weave.specs.Woven.{own_writes}
-use Rattle.sk_weave.specs.Reads.{owns}
+use Rattle.sk_linked.specs.Reads.{owns}
 use Rattle.sk_core.proofs.reopen.own_puts.Given as goal
 
 -- The writes so far with those of the calls to come are all.

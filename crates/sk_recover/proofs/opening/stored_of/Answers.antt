@@ -1,5 +1,5 @@
 use Rattle.sk_log.specs.Stores.{root_of}
-use Rattle.sk_recover.specs.Views.{base_of, reached_of}
+use Rattle.sk_recover.specs.Views.{base_of, position_of}
 use Rattle.sk_recover.proofs.Sound.{stored_fits}
 use Rattle.sk_recover.proofs.opening.stored_of.Goals as goal
 
@@ -10,5 +10,5 @@ returns-in-Ok-turns-clause-sound c =
       rise = c.in-Ok.ensures.rise;
       count = c.in-Ok.ensures.count;
       reached = c.in-Ok-turns.ensures.reached;
-      fit = stored_fits (root_of c.args.root.now) c.args.base.now c.args.one.now c.args.two.now (base_of c.in-Ok.base) (reached_of c.in-Ok.base.0 c.in-Ok-turns.reached) c.in-Ok.ensures.value last c.tables.ensures.catalog;
+      fit = stored_fits (root_of c.args.root.now) c.args.base.now c.args.one.now c.args.two.now (base_of c.in-Ok.base) (position_of c.in-Ok.base.0 c.in-Ok-turns.reached) c.in-Ok.ensures.value last c.tables.ensures.catalog;
     }

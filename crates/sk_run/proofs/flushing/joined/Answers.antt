@@ -1,6 +1,6 @@
 -- The points are those of whatever it stands for behind the call.
 use Rattle.std.proofs.Common.{ℕ, subst}
-use Rattle.sk_weave.specs.Reads.{number_at}
+use Rattle.sk_linked.specs.Reads.{number_at}
 use Rattle.sk_run.specs.Flushing.{Joins}
 use Rattle.sk_run.proofs.Stands.{mem_stands, store_stands}
 use Rattle.sk_run.proofs.Finding.{joins_points}

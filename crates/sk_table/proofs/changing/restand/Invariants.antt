@@ -1,6 +1,6 @@
 use Rattle.std.proofs.Common.{◌≡◌, ◌++◌}
 use Rattle.sk_model.specs.EngineChanges.{restand}
-use Rattle.sk_table.specs.Standing.{state_of}
+use Rattle.sk_table.specs.RowState.{state_of}
 use Rattle.sk_table.proofs.changing.restand.Given as goal
 
 -- The versions so far with those to come are all.

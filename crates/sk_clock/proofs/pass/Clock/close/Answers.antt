@@ -4,33 +4,33 @@ use Rattle.sk_model.specs.declared.point.Point.{Point}
 use Rattle.sk_weave.specs.Points.{point_at}
 use Rattle.sk_clock.specs.Of.{start_of}
 use Rattle.sk_clock.specs.Closes.{own_of, Closes}
-use Rattle.sk_clock.proofs.Ends.{Reads, shown, low_read, first_read, more_read, room_left, next_big, all_read, at_read, word_read, get_or_at}
+use Rattle.sk_clock.proofs.Ends.{Reads, closed_shown, low_read, first_read, more_read, room_left, next_big, all_read, at_read, word_read, get_or_at}
 use Rattle.sk_clock.proofs.pass.Clock.close.Goals as goal
 
 pub overflow_mul-at : goal.overflow_mul-at
 overflow_mul-at c =
     let g = c.gather-all.ensures in
-    let h = shown (start_of c.args.self) c.gather-all.result.id c.gather-all.result.me.0 _ _ (map own_of c.args.passes.items) g.live g.all c.requires.every c.close_with-words.ensures.values.2 in
+    let h = closed_shown (start_of c.args.self) c.gather-all.result.id c.gather-all.result.me.0 _ _ (map own_of c.args.passes.items) g.live g.all c.requires.every c.close_with-words.ensures.values.2 in
     let l = low_read c.args.self _ _ c.word-low.result h c.word-low.ensures in
     search rules
 
 pub unpack-requires : goal.unpack-requires
 unpack-requires c =
     let g = c.gather-all.ensures in
-    let h = shown (start_of c.args.self) c.gather-all.result.id c.gather-all.result.me.0 _ _ (map own_of c.args.passes.items) g.live g.all c.requires.every c.close_with-words.ensures.values.2 in
+    let h = closed_shown (start_of c.args.self) c.gather-all.result.id c.gather-all.result.me.0 _ _ (map own_of c.args.passes.items) g.live g.all c.requires.every c.close_with-words.ensures.values.2 in
     word_read c.args.self _ _ _ _ _ (first_read c.args.self _ _ c.word-low.result c.word-word.result h c.word-low.ensures c.word-word.ensures)
 
 pub overflow_add-at-2 : goal.overflow_add-at-2
 overflow_add-at-2 c =
     let g = c.gather-all.ensures in
-    let h = shown (start_of c.args.self) c.gather-all.result.id c.gather-all.result.me.0 _ _ (map own_of c.args.passes.items) g.live g.all c.requires.every c.close_with-words.ensures.values.2 in
+    let h = closed_shown (start_of c.args.self) c.gather-all.result.id c.gather-all.result.me.0 _ _ (map own_of c.args.passes.items) g.live g.all c.requires.every c.close_with-words.ensures.values.2 in
     let l = low_read c.args.self _ _ c.word-low.result h c.word-low.ensures in
     search rules
 
 pub loop-word-init : goal.loop-word-init
 loop-word-init c =
     let g = c.gather-all.ensures in
-    let h = shown (start_of c.args.self) c.gather-all.result.id c.gather-all.result.me.0 _ _ (map own_of c.args.passes.items) g.live g.all c.requires.every c.close_with-words.ensures.values.2 in
+    let h = closed_shown (start_of c.args.self) c.gather-all.result.id c.gather-all.result.me.0 _ _ (map own_of c.args.passes.items) g.live g.all c.requires.every c.close_with-words.ensures.values.2 in
     let r = first_read c.args.self _ _ c.word-low.result c.word-word.result h c.word-low.ensures c.word-word.ensures in
     let empty : c.in-Ok.points.items ≡ [] = c.in-Ok.ensures.items in
     let items : c.push_reserved.new.self.items ≡ point_at c.word-word.result ∷ [] = c.push_reserved.ensures.items ∙ ((λ i. empty i ++ c.unpack.ensures i ∷ [])) in

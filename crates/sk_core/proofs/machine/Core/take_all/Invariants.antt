@@ -1,7 +1,7 @@
 use Rattle.std.proofs.Common.{◌≡◌, ◌≤◌, take, length, vec_len}
 use Rattle.std.specs.Vec.{vec_capacity}
 use Rattle.sk_linked.specs.Machine.{run}
-use Rattle.sk_core.specs.Reached.{replies_to}
+use Rattle.sk_core.specs.Reachable.{replies_to}
 use Rattle.sk_core.proofs.machine.Core.take_all.Given as goal
 
 -- The state and the replies are those of the events so far, and there is room for a reply to each.

@@ -1,7 +1,7 @@
 use Rattle.std.proofs.Common.{◌≡◌, ◌≤◌, ◌<◌, length, ap, sym, subst, ◌∙◌, arith}
 use Rattle.sk_points.specs.Parts.{room_parts, room_newest, pushed}
 use Rattle.sk_points.proofs.Adding.{room_there, put_in_place}
-use Rattle.sk_points.proofs.Standing.{append_stands}
+use Rattle.sk_points.proofs.Settled.{append_stands}
 use Rattle.sk_points.proofs.points.Points.append.Goals as goal
 
 pub returns : goal.returns

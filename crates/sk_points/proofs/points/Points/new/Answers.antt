@@ -1,7 +1,7 @@
 use Rattle.std.proofs.Common.{◌≡◌, ◌+◌, [], ◌∷◌, ◌++◌, length, refl, ap, ◌∙◌, arith}
 use Rattle.std.proofs.lemmas.List.{length-append}
 use Rattle.sk_points.specs.Parts.{RingPart, with_point}
-use Rattle.sk_points.proofs.Standing.{start_stands, each_spare}
+use Rattle.sk_points.proofs.Settled.{start_stands, each_spare}
 use Rattle.sk_points.proofs.points.Points.new.Goals as goal
 
 pub loop-init : goal.loop-init

@@ -3,7 +3,7 @@ use Rattle.std.specs.Prelude.{◌≡◌, ◌⊎◌, ◌<◌, ℕ, List, [], ◌�
 use Rattle.std.specs.List.{AllByRecursion}
 use Rattle.sk_model.specs.declared.call.Entry.{Entry}
 use Rattle.sk_model.specs.Records.{Fresh}
-use Rattle.sk_weave.specs.Reads.{view_at}
+use Rattle.sk_linked.specs.Reads.{view_at}
 use Rattle.sk_linked.specs.declared.event.Event.{Event}
 use Rattle.sk_linked.specs.declared.event.CoreReply.{CoreReply}
 use Rattle.sk_linked.specs.declared.event.CoreReply.TheVariants as reply
@@ -17,7 +17,7 @@ use Rattle.sk_linked.specs.Runs.{Start, ran, IsDurable}
 use Rattle.sk_linked.specs.Explaining.{EventsTold}
 
 -- some events lead to the state from some beginning
-pub record Reached (k : Core) : Type 0 where
+pub record IsReachable (k : Core) : Type 0 where
   pub start : Start
   pub events : List Event
   pub is : ran start events ≡ k
