@@ -196,9 +196,9 @@ module _ (h : Traces) (ring : Ring) (t : Transaction) (r : Record) (linked : Lin
       plain (reply.Step s n) p k = tt
       plain (reply.Refused word) p k = tt
 
-  each_caused : (talks : Talks h.catalog r t.talk) (said : List Said) → Each (λ (s : Said). Source (opened Mem talks.spoken) talks.spoken s.reply) said → Each (λ (s : Said). RegistrySaid h ring r s.reply) said → Each (λ (s : Said). Caused h ring r s.reply) said
-  each_caused talks [] f k = tt
-  each_caused talks (s ∷ said) f k = (caused talks s.reply f.0 k.0, each_caused talks said f.1 k.1)
+  each_caused : (talks : Talks h.catalog r t.talk) (said : List Said) → Each (λ (s : Said). Source (opened Mem talks.spoken) talks.spoken s.reply) said → Each (λ (s : Said). RegistrySaid h ring r s.reply → Caused h ring r s.reply) said
+  each_caused talks [] f = tt
+  each_caused talks (s ∷ said) f = (caused talks s.reply f.0, each_caused talks said f.1)
 
 pub refusals_are_caused : RefusalsAreCaused
-refusals_are_caused h ring t r linked among same made talks said = each_caused h ring t r linked among same made talks r.said (said_sources h.catalog r t.talk talks) said
+refusals_are_caused h ring t r linked among same made talks = each_caused h ring t r linked among same made talks r.said (said_sources h.catalog r t.talk talks)

@@ -8,7 +8,6 @@ use Rattle.sk_model.specs.declared.engine.EngineName.{EngineName}
 use Rattle.sk_model.specs.declared.engine.EngineName.TheVariants.{Mem, Store}
 use Rattle.sk_model.specs.declared.point.Point.{Point}
 use Rattle.sk_model.specs.declared.record.Record.{Record}
-use Rattle.sk_model.specs.declared.record.Said.{Said}
 use Rattle.sk_model.specs.declared.call.Entry.{Entry}
 use Rattle.sk_model.specs.Records.{is_committed}
 use Rattle.sk_model.specs.Talks.{calls_in, tx_of, is_by, entries_by, wrote}
@@ -18,7 +17,7 @@ use Rattle.sk_linked.specs.Traces.{Transaction, In, CommitOf, MakerOf, IsAtHoriz
 use Rattle.sk_linked.specs.Recorded.{HasTalk, AreRecords}
 use Rattle.sk_linked.specs.Joining.{Share, Counted, Behaves, Own, in_session, session_entries, all_transactions, Apart, OfOne, Heard, Joined}
 use Rattle.sk_linked.specs.Conduct.{IsBacked}
-use Rattle.sk_linked.specs.Causes.{Caused, Ring, RegistrySaid}
+use Rattle.sk_linked.specs.Causes.{Ring, HasCauses}
 use Rattle.sk_linked.specs.Kept.{Account, Session, Play, transaction_in, transactions_in, share_in, shares_in, traces_in, records_in, IsAccount, IsPlay, SessionsAreOne}
 use Rattle.sk_linked.proofs.Members.{each_in, in_each, in_either}
 use Rattle.sk_linked.proofs.Joining as joining
@@ -228,18 +227,15 @@ module _ (p : Play) (play : IsPlay p) where
   records : AreRecords p.catalog (traces_in p).transactions (records_in p)
   records = session_records p.sessions play.accounts
 
-  abbrev HasCauses : Ring → Record → Type 0
-  HasCauses ring r = Each (λ (s : Said). RegistrySaid (traces_in p) ring r s.reply) r.said → Each (λ (s : Said). Caused (traces_in p) ring r s.reply) r.said
-
-  causes : (ring : Ring) → Each (HasCauses ring) (records_in p)
-  causes ring = in_each (HasCauses ring) (records_in p) of_record
+  causes : (ring : Ring) → Each (HasCauses (traces_in p) ring) (records_in p)
+  causes ring = in_each (HasCauses (traces_in p) ring) (records_in p) of_record
     where
-      of_record : (r : Record) → In r (records_in p) → HasCauses ring r
+      of_record : (r : Record) → In r (records_in p) → HasCauses (traces_in p) ring r
       of_record r i =
           let f : InFlat (λ (s : Session). map (λ (a : Account). a.kept) s.accounts) p.sessions r = flat_in (λ (s : Session). map (λ (a : Account). a.kept) s.accounts) p.sessions r i in
           let a : Mapped (λ (a : Account). a.kept) f.from.accounts r = map_in (λ (a : Account). a.kept) f.from.accounts r f.here in
-          subst (HasCauses ring) (sym a.is)
-          (λ said. refusals_are_caused (traces_in p) ring (transaction_in a.from) a.from.kept linked (transaction_of f.from f.among a.from a.among) (has_talk a.from) refl (account_of f.from f.among a.from a.among).talks said)
+          subst (HasCauses (traces_in p) ring) (sym a.is)
+          (refusals_are_caused (traces_in p) ring (transaction_in a.from) a.from.kept linked (transaction_of f.from f.among a.from a.among) (has_talk a.from) refl (account_of f.from f.among a.from a.among).talks)
 
 pub sessions_are_one : SessionsAreOne
 sessions_are_one p play = record {

@@ -275,4 +275,4 @@ is_one = sessions_are_one played is_play
 
 -- the conflict has its cause: row 1's newest stamped version is of 1.1 and has the number 1, past the snapshot 0
 conflict_caused : (ring : Ring) → Caused (traces_in played) ring loser (reply.Conflict one (why.Past 1 0))
-conflict_caused ring = ((is_one.caused ring).1.0 (tt, (tt, tt))).1.0
+conflict_caused ring = (is_one.caused ring).1.0.1.0 tt

@@ -165,7 +165,10 @@ RegistrySaid h ring r (reply.Recycled e) = (regs : Regs) × IsStateOf h ring reg
 RegistrySaid h ring r (reply.Spent name) = (regs : Regs) × IsStateOf h ring regs × (floor : ℕ) × (drawn (counter name regs) floor ≡ Err Spent)
 RegistrySaid h ring r _ = Unit {0}
 
--- In linked traces each refusal of a record has its cause, where the registry answered what it refused.
+-- each reply of a record has its cause, where the registry answered what it refused
+abbrev pub HasCauses : Traces → Ring → Record → Type 0
+HasCauses h ring r = AllByRecursion (λ (s : Said). RegistrySaid h ring r s.reply → Caused h ring r s.reply) r.said
+
+-- In linked traces each refusal of a record has its cause.
 abbrev pub RefusalsAreCaused : Type 0
-RefusalsAreCaused = (h : Traces) (ring : Ring) (t : Transaction) (r : Record) → Linked h → In t h.transactions → HasTalk t r → t.made ≡ r.made → Talks h.catalog r t.talk
-    → AllByRecursion (λ (s : Said). RegistrySaid h ring r s.reply) r.said → AllByRecursion (λ (s : Said). Caused h ring r s.reply) r.said
+RefusalsAreCaused = (h : Traces) (ring : Ring) (t : Transaction) (r : Record) → Linked h → In t h.transactions → HasTalk t r → t.made ≡ r.made → Talks h.catalog r t.talk → HasCauses h ring r

@@ -20,7 +20,7 @@ use Rattle.sk_linked.specs.Headline.{place_of}
 use Rattle.sk_linked.specs.Recorded.{AreRecords}
 use Rattle.sk_linked.specs.Joining.{TablesFit, MayRecords, Share, Counted, session_entries, all_transactions, Apart}
 use Rattle.sk_model.specs.Texts.{texts_are_short}
-use Rattle.sk_linked.specs.Causes.{Caused, Ring, RegistrySaid}
+use Rattle.sk_linked.specs.Causes.{Ring, HasCauses}
 
 -- one transaction: its record, and its calls
 pub record Account : Type 0 where
@@ -100,7 +100,7 @@ pub record IsOneRun (p : Play) : Type 0 where
   pub linked : Linked (traces_in p)
   pub records : AreRecords p.catalog (traces_in p).transactions (records_in p)
   pub one : AreSorted p.rows → Fresh (records_in p) → OneDatabase p.catalog p.rows (order_of (run_of (traces_in p))) (map (place_of (run_of (traces_in p))) (traces_in p).transactions) (records_in p)
-  pub caused : (ring : Ring) → AllByRecursion (λ (r : Record). AllByRecursion (λ (s : Said). RegistrySaid (traces_in p) ring r s.reply) r.said → AllByRecursion (λ (s : Said). Caused (traces_in p) ring r s.reply) r.said) (records_in p)
+  pub caused : (ring : Ring) → AllByRecursion (HasCauses (traces_in p) ring) (records_in p)
 
 abbrev pub SessionsAreOne : Type 0
 SessionsAreOne = (p : Play) → IsPlay p → IsOneRun p

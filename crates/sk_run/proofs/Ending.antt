@@ -17,9 +17,11 @@ use Rattle.sk_model.specs.Talks.{Talk}
 use Rattle.sk_model.proofs.Lists.{Each}
 use Rattle.sk_linked.specs.Reads.{Run as CommitRun, order_of}
 use Rattle.sk_linked.specs.Joining.{all_transactions}
+use Rattle.sk_linked.specs.Causes.{HasCauses}
 use Rattle.sk_linked.specs.Kept.{Account, Session as Spoken, Play, transaction_in, transactions_in, share_in, records_in, traces_in, IsPlay}
 use Rattle.sk_linked.specs.Traces.{run_of}
 use Rattle.sk_linked.specs.Headline.{place_of}
+use Rattle.sk_linked.proofs.Kept.{sessions_are_one}
 use Rattle.sk_mem.specs.declared.engine.MemEngine.{MemEngine}
 use Rattle.sk_store.specs.declared.engine.StoreEngine.{StoreEngine}
 use Rattle.sk_session.specs.declared.live.At.{At}
@@ -186,6 +188,7 @@ module _ (mem : MemEngine → EngineTable → List Entry → Type 0) (store : St
         one = subst (OneDatabase x.catalog b.rows y.order y.places) (sym by.records_are)
             (subst (λ ps. OneDatabase x.catalog b.rows y.order ps (records_in play)) at
             (subst (λ cs. OneDatabase x.catalog b.rows cs (map (place_of run) (traces_in play).transactions) (records_in play)) (sym order) one.1));
+        caused = λ ring. subst (Each (HasCauses (traces_in play) ring)) (sym by.records_are) ((sessions_are_one play one.0).caused ring);
         numbered = subst (λ cs. AreByRecords cs y.records) (sym order) (subst (AreByRecords (order_of run)) (sym by.records_are) (numbered play one.0));
         steps = steps;
         are_steps = are_steps;

@@ -17,6 +17,7 @@ mod words;
 
 pub use generating::generate;
 pub use laws::{bytes_are_read_by_the_grammar, faults_are_read_by_the_grammar};
+pub use limits::MOST_SESSIONS;
 pub use reading::read_script;
 pub use script::{
     Line, OptionLine, OptionLineList, Script, ScriptFault, ScriptLine, ScriptLineList, TableLine,

@@ -1,12 +1,13 @@
 -- What came of lines, and more of it.
-use Rattle.std.specs.Prelude.{◌≡◌, List, [], ◌∷◌, ◌++◌, Option, Some}
-use Rattle.std.proofs.Common.{refl, ap, ◌∙◌}
+use Rattle.std.specs.Prelude.{◌≡◌, ℕ, List, [], ◌∷◌, ◌++◌, Option, Some}
+use Rattle.std.proofs.Common.{refl, sym, ap, subst, ◌∙◌}
 use Rattle.std.proofs.lemmas.List.{append-nil}
 use Rattle.std.proofs.lemmas.Grind.{flat_map-append}
 use Rattle.sk_model.specs.declared.reply.Reply.{Reply}
+use Rattle.sk_model.proofs.Lists.{Each, each_append}
 use Rattle.sk_script.specs.declared.script.ScriptLine.{ScriptLine}
 use Rattle.sk_serial.specs.Saving.{Saved, saved_by}
-use Rattle.sk_serial.specs.Played.{Came, Answered, Flushed, IsOf, AreOf, HasBroken, told_in, lines_text, came_text, reply_after, saved_after}
+use Rattle.sk_serial.specs.Played.{Came, Answered, Flushed, IsOf, AreOf, HasBroken, told_in, lines_text, came_text, reply_after, saved_after, FullPast}
 
 pub told_more : (front back : List Came) → told_in (front ++ back) ≡ told_in front ++ told_in back
 told_more [] back = refl
@@ -38,3 +39,7 @@ broken_more came more (front, note, is, broken) = (came ++ front, note, ap (λ x
     append_assoc_back : (xs ys zs : List Came) → xs ++ (ys ++ zs) ≡ (xs ++ ys) ++ zs
     append_assoc_back [] ys zs = refl
     append_assoc_back (x ∷ xs) ys zs = ap (λ ws. x ∷ ws) (append_assoc_back xs ys zs)
+
+-- with one more, where a log may be as long as before
+pub full_more : (was logmax : ℕ) → logmax ≡ was → (came : List Came) (c : Came) → Each (FullPast was) came → FullPast logmax c → Each (FullPast logmax) (came ++ c ∷ [])
+full_more was logmax same came c h f = each_append (FullPast logmax) came (c ∷ []) (subst (λ (n : ℕ). Each (FullPast n) came) (sym same) h) (f, tt)

@@ -20,6 +20,7 @@ use Rattle.sk_run.specs.Flushing.{KeepsStill}
 use Rattle.sk_run.specs.Ended.{AreSteps, HasEnded, Settles, HandsOut}
 use Rattle.sk_run.specs.declared.ended.Ended.{Ended}
 use Rattle.sk_run.proofs.Refusing.{obey}
+use Rattle.sk_serial.specs.Flushed.{IsPast}
 use Rattle.sk_serial.specs.Saving.{Saved, saved_in, saved_by, saved_last}
 use Rattle.sk_serial.specs.Showing.{IsStill, HasSaved, SavesOn}
 use Rattle.sk_serial.specs.Played.{told_in, last_text, Now, SettlesOn, Closes, EndsSo}
@@ -59,22 +60,24 @@ module _ {D : Type 0} (disk : Disk D) (mem : MemEngine → EngineTable → List 
     settles = settles_nothing old.run old.store;
     waits = λ h. h;
     catalog = refl;
+    full = tt;
     printed = sym (append-nil old.text);
     is_saved = refl;
     replied = refl;
   }
 
   -- the sessions ended, and a flush was made
-  pub closes_all : (old new : Now D) (settled : RunState) (between : Kept D) (note : FlushNote) (ended : Bool) → ended ≡ false → Settles mem store old.run settled → IsStill old.store between → WaitsOn old.run old.store.queued settled between.queued → settled.catalog ≡ old.run.catalog
-      → KeepsStill mem store settled new.run → SavesOn disk mem store settled between new.run new.store → new.store.queued ≡ between.queued
+  pub closes_all : (old new : Now D) (settled : RunState) (between : Kept D) (note : FlushNote) (ended : Bool) → ended ≡ false → Settles mem store old.run settled → IsStill old.store between → WaitsOn old.run old.store.queued settled between.queued → settled.catalog ≡ old.run.catalog → between.logmax ≡ old.store.logmax
+      → KeepsStill mem store settled new.run → SavesOn disk mem store settled between new.run new.store → new.store.queued ≡ between.queued → IsPast between.logmax note.refused
       → new.text ≡ old.text ++ last_text (Some note) → saved_in new.store ≡ saved_by note (saved_in old.store) → new.last ≡ old.last → Closes disk mem store old ended new
-  closes_all old new settled between note true is settles same waits tables still saves queued printed saved last = absurd (cc)
-  closes_all old new settled between note false is settles same waits tables still saves queued printed saved last = record {
+  closes_all old new settled between note true is settles same waits tables limit still saves queued full printed saved last = absurd (cc)
+  closes_all old new settled between note false is settles same waits tables limit still saves queued full printed saved last = record {
     flushed = Some note;
     is_last = tt;
     settles = settles_flushed old.run settled new.run old.store between new.store (settles_still old.run settled old.store between settles same) saves;
     waits = waits_on old.run settled new.run old.store.queued between.queued new.store.queued waits (waits_same settled new.run between.queued new.store.queued (stay_same settled new.run still.sessions) queued);
     catalog = still.catalog ∙ tables;
+    full = subst (λ (n : ℕ). IsPast n note.refused) limit full;
     printed = printed;
     is_saved = saved;
     replied = last;
@@ -92,6 +95,8 @@ module _ {D : Type 0} (disk : Disk D) (mem : MemEngine → EngineTable → List 
           refused = subst (λ (n : ℕ). ObeyTable catalog (told_in came) (range_with_len 1 n)) h.sessions (obey catalog 1 (told_in came) old.run.sessions h.refused);
           flushed = closes.flushed;
           is_last = closes.is_last;
+          full = h.full;
+          last_full = closes.full;
           printed = printed ∙ closes.printed ∙ ap (λ (xs : List ℕ). xs ++ last_text closes.flushed) h.printed;
           is_saved = is_saved ∙ closes.is_saved ∙ ap (saved_last closes.flushed) h.is_saved;
           replied = replied ∙ closes.replied ∙ h.replied;

@@ -9,6 +9,7 @@ pub mod Showing
 pub mod Prefixes
 pub mod Lasts
 pub mod Saves
+pub mod Full
 pub mod Opened
 -- what is answered, from how it ended
 pub mod Found

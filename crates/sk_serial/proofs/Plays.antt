@@ -22,6 +22,7 @@ use Rattle.sk_script.specs.declared.script.Line.TheVariants as line
 use Rattle.sk_script.specs.declared.script.ScriptLine.{ScriptLine}
 use Rattle.sk_script.specs.Limits.{most_sessions}
 use Rattle.sk_text.specs.Text.{reply_lines, flush_text}
+use Rattle.sk_serial.specs.Flushed.{IsPast}
 use Rattle.sk_serial.specs.Saving.{saved_in, saved_first, saved_by}
 use Rattle.sk_serial.specs.Showing.{IsStill, HasSaved, SavesOn}
 use Rattle.sk_serial.specs.Stored.{beginning}
@@ -30,7 +31,7 @@ use Rattle.sk_run.proofs.Over.{stay_same}
 use Rattle.sk_serial.proofs.Acknowledged.{waits_same}
 use Rattle.sk_serial.proofs.Showing.{shows_none, shows_still}
 use Rattle.sk_serial.specs.Played.{Came, Answered, Flushed, IsOf, AreOf, HasBroken, IsCutOff, StopsAt, line_of, told_in, Now, now, HasPlayed, PlaysOn, PlaysLine, PlaysSaid, PlaysFlush, PlaysNext, PlaysAll}
-use Rattle.sk_serial.proofs.Came.{told_more, text_more, reply_more, saved_more, of_more, broken_more}
+use Rattle.sk_serial.proofs.Came.{told_more, text_more, reply_more, saved_more, of_more, broken_more, full_more}
 
 -- what a run was told by a line
 abbrev pub told_by : ℕ → Option Statement → Reply → RunLine
@@ -62,6 +63,7 @@ module _ {D : Type 0} (disk : Disk D) (mem : MemEngine → EngineTable → List 
     tables = tables;
     sessions = sessions;
     refused = subst (λ (c : List Table). AreRefused c 1 [] run.sessions) tables refused;
+    full = tt;
     printed = printed;
     is_saved = rw (told, cut) refl;
     replied = refl;
@@ -80,9 +82,9 @@ module _ {D : Type 0} (disk : Disk D) (mem : MemEngine → EngineTable → List 
   }
 
   pub plays_said : (old new : Now D) (session : ℕ) (s : Option Statement) (reply : Reply) → KeepsOn mem store old.run session s new.run reply → RefusesOn mem store old.run session s new.run reply
-      → new.run.catalog ≡ old.run.catalog → length new.run.sessions ≡ length old.run.sessions → new.text ≡ old.text ++ reply_lines session reply → IsStill old.store new.store → saved_in new.store ≡ saved_in old.store → WaitsOn old.run old.store.queued new.run new.store.queued → new.last ≡ Some reply
+      → new.run.catalog ≡ old.run.catalog → length new.run.sessions ≡ length old.run.sessions → new.text ≡ old.text ++ reply_lines session reply → IsStill old.store new.store → saved_in new.store ≡ saved_in old.store → new.store.logmax ≡ old.store.logmax → WaitsOn old.run old.store.queued new.run new.store.queued → new.last ≡ Some reply
       → PlaysSaid disk mem store old session s new
-  plays_said old new session s reply keeps refuses tables sessions printed still saved waits last = (
+  plays_said old new session s reply keeps refuses tables sessions printed still saved limit waits last = (
     reply,
     λ catalog b begun came h.
         let told : told_in (came ++ Answered (told_by session s reply) ∷ []) ≡ told_in came ++ told_by session s reply ∷ [] = told_more came (Answered (told_by session s reply) ∷ []) in
@@ -94,15 +96,16 @@ module _ {D : Type 0} (disk : Disk D) (mem : MemEngine → EngineTable → List 
           refused = subst (λ (ls : List RunLine). AreRefused catalog 1 ls new.run.sessions) (sym told)
               (subst (λ (c : List Table). AreRefused c 1 (told_in came ++ told_by session s reply ∷ []) new.run.sessions) h.tables
               (refuses b (told_in came) (h.saved.flushes ++ h.saved.tried) h.saved.has_kept (subst (λ (c : List Table). AreRefused c 1 (told_in came) old.run.sessions) (sym h.tables) h.refused)));
+          full = full_more old.store.logmax new.store.logmax limit came (Answered (told_by session s reply)) h.full tt;
           printed = printed ∙ ap (λ (xs : List ℕ). xs ++ reply_lines session reply) h.printed ∙ sym (text_more came (Answered (told_by session s reply)));
           is_saved = saved ∙ h.is_saved ∙ sym (saved_more (saved_first b.first) came (Answered (told_by session s reply) ∷ []));
           replied = last ∙ sym (reply_more None came (Answered (told_by session s reply) ∷ []));
         },
   )
 
-  pub plays_flush : (old new : Now D) (note : FlushNote) → KeepsStill mem store old.run new.run → SavesOn disk mem store old.run old.store new.run new.store → new.text ≡ old.text ++ flush_text note → saved_in new.store ≡ saved_by note (saved_in old.store) → new.store.queued ≡ old.store.queued → new.last ≡ old.last
+  pub plays_flush : (old new : Now D) (note : FlushNote) → KeepsStill mem store old.run new.run → SavesOn disk mem store old.run old.store new.run new.store → new.text ≡ old.text ++ flush_text note → saved_in new.store ≡ saved_by note (saved_in old.store) → new.store.logmax ≡ old.store.logmax → IsPast old.store.logmax note.refused → new.store.queued ≡ old.store.queued → new.last ≡ old.last
       → PlaysOn disk mem store old (Flushed note ∷ []) new
-  plays_flush old new note still saves printed saved queued last catalog b begun came h =
+  plays_flush old new note still saves printed saved limit full queued last catalog b begun came h =
       let told : told_in (came ++ Flushed note ∷ []) ≡ told_in came = told_more came (Flushed note ∷ []) ∙ append-nil (told_in came) in
       record {
         saved = subst (λ (ls : List RunLine). HasSaved disk mem store b begun ls new.run new.store) (sym told) (saves b begun (told_in came) h.saved);
@@ -110,6 +113,7 @@ module _ {D : Type 0} (disk : Disk D) (mem : MemEngine → EngineTable → List 
         tables = still.catalog ∙ h.tables;
         sessions = ap length still.sessions ∙ h.sessions;
         refused = subst (λ (ls : List RunLine). AreRefused catalog 1 ls new.run.sessions) (sym told) (subst (λ (ss : List Session). AreRefused catalog 1 (told_in came) ss) (sym still.sessions) h.refused);
+        full = full_more old.store.logmax new.store.logmax limit came (Flushed note) h.full (subst (λ (n : ℕ). IsPast n note.refused) (sym limit) full);
         printed = printed ∙ ap (λ (xs : List ℕ). xs ++ flush_text note) h.printed ∙ sym (text_more came (Flushed note));
         is_saved = saved ∙ ap (saved_by note) h.is_saved ∙ sym (saved_more (saved_first b.first) came (Flushed note ∷ []));
         replied = last ∙ h.replied ∙ sym (reply_more None came (Flushed note ∷ []));

@@ -32,12 +32,13 @@ module _ {D : Type 0} (disk : Disk D) (faults : D → ℕ) where
   }
 
   -- no call, or one that leaves the disk alone
-  pub saves_same : (old new : Kept D) → new.disk ≡ old.disk → new.broken ≡ old.broken → Saves disk faults old new
-  saves_same old new is unbroken = record { grows = grows_same old.disk new.disk is; broke = λ e. inl (sym unbroken ∙ e) }
+  pub saves_same : (old new : Kept D) → new.disk ≡ old.disk → new.broken ≡ old.broken → new.logmax ≡ old.logmax → Saves disk faults old new
+  saves_same old new is unbroken limit = record { grows = grows_same old.disk new.disk is; limit = limit; broke = λ e. inl (sym unbroken ∙ e) }
 
   pub saves_then : (old mid new : Kept D) → Saves disk faults old mid → Saves disk faults mid new → Saves disk faults old new
   saves_then old mid new a b = record {
     grows = grows_then old.disk mid.disk new.disk a.grows b.grows;
+    limit = b.limit ∙ a.limit;
     broke = λ e. ⊎_elim
         (λ (was : mid.broken ≡ true). ⊎_elim
         (λ (first : old.broken ≡ true). inl first)

@@ -13,11 +13,12 @@ use Rattle.sk_durable.specs.Kept.{Kept}
 use Rattle.sk_recover.specs.declared.opening.Opened.{Opened}
 use Rattle.sk_recover.specs.Owning.{LogsHoldTheirOwn}
 use Rattle.sk_script.specs.declared.script.Script.{Script}
+use Rattle.sk_script.specs.Options.{settings_of}
 use Rattle.sk_serial.specs.declared.ending.Shown.{Shown}
 use Rattle.sk_serial.specs.declared.run_fault.RunFault.{RunFault}
 use Rattle.sk_serial.specs.declared.run_fault.RunFault.TheVariants as run_fault
 use Rattle.sk_serial.specs.Lasting.{Lasts}
-use Rattle.sk_serial.specs.Played.{tables_in, Now, HasPlayed, PlaysAll, EndsSo}
+use Rattle.sk_serial.specs.Played.{tables_in, Now, HasEnding, HasPlayed, PlaysAll, EndsSo}
 use Rattle.sk_serial.specs.Running.{IsPlayed, HasText, HasHalted, IsHalted, IsScript, WhyNoScript, WhyHalted, saved_of, transfers_in}
 use Rattle.sk_serial.specs.Saving.{Grows, Saves, IsKept}
 use Rattle.sk_serial.specs.Stored.{start_of, beginning, StartsFrom, HasNotBegun, WhyNone}
@@ -52,8 +53,8 @@ module _ {D : Type 0} (disk : Disk D) (faults : D → ℕ) where
     pub is_played : (script : Script) (transfers : Option ℕ) (was begun : D) (opened : Opened) (start end : Now D) (ended : Bool) (first last : Kept D) (s t : Shown D)
         → LogsHoldTheirOwn → StartsFrom disk faults script (is_some transfers) was opened begun → HasPlayed disk mem store opened.catalog (beginning opened) begun [] start → PlaysAll disk mem store start script.lines end ended
         → EndsSo disk mem store end ended s.ended (string_bytes s.text) (saved_of s) s.last s.disk s.broken → first.disk ≡ begun → first.broken ≡ false → Saves disk faults first last
-        → IsKept disk faults last s.receipts s.cut s.broken s.disk → HasText transfers s t → IsPlayed disk faults script transfers was t.ended (saved_of t) (string_bytes t.text) t.broken t.disk
-    is_played script transfers was begun opened start end ended first last s t law starts begins plays ends is unbroken saves kept has =
+        → end.store.logmax ≡ (settings_of script.options).logmax → IsKept disk faults last s.receipts s.cut s.broken s.disk → HasText transfers s t → IsPlayed disk faults script transfers was t.ended (saved_of t) (string_bytes t.text) t.broken t.disk
+    is_played script transfers was begun opened start end ended first last s t law starts begins plays ends is unbroken saves limit kept has =
         let all = ends opened.catalog (beginning opened) begun plays.came (plays.plays opened.catalog (beginning opened) begun [] begins) in
         rw (has.ended, has.receipts, has.cut, has.disk, has.broken) (record {
           opened = opened;
@@ -69,7 +70,7 @@ module _ {D : Type 0} (disk : Disk D) (faults : D → ℕ) where
             cut_off = plays.cut_off;
             said = string_bytes s.text;
             last = s.last;
-            ending = all.0;
+            ending = subst (λ (n : ℕ). HasEnding opened.catalog (beginning opened) n plays.came ended s.ended (string_bytes s.text) (saved_of s) s.last) limit all.0;
             printed = has.text;
           };
           prefixes = λ tells. shows_prefixes opened starts.has_opened.sound law disk begun s.ended s.disk s.cut s.broken (starts.has_opened.stands tells) all.1 tells;

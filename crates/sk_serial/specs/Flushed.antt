@@ -1,5 +1,5 @@
 -- How a flush ended.
-use Rattle.std.specs.Prelude.{Bool, true, false, Option, Some, None}
+use Rattle.std.specs.Prelude.{ℕ, ◌<◌, Bool, true, false, Option, Some, None}
 use Rattle.sk_model.specs.declared.receipt.FlushFault.{FlushFault}
 use Rattle.sk_model.specs.declared.receipt.FlushFault.TheVariants as fault
 use Rattle.sk_outcome.specs.declared.flush_note.FlushNote.{FlushNote}
@@ -13,3 +13,10 @@ is_device (Some fault.NoMemory) = false
 -- the disk failed the flush
 abbrev pub is_broken : FlushNote → Bool
 is_broken note = is_device note.refused
+
+-- a flush is refused for the length of a log only where that is past the greatest one
+abbrev pub IsPast : ℕ → Option FlushFault → Type 0
+IsPast logmax None = Unit {0}
+IsPast logmax (Some fault.Device) = Unit {0}
+IsPast logmax (Some (fault.LogFull n)) = logmax < n
+IsPast logmax (Some fault.NoMemory) = Unit {0}

@@ -1,6 +1,6 @@
 -- The lines of a script as they were played: what came of each, and the text of it.
-use Rattle.std.specs.Prelude.{◌≡◌, ◌⊎◌, ℕ, Bool, true, false, List, [], ◌∷◌, ◌++◌, Option, Some, None, map, length}
-use Rattle.std.specs.List.{flat_map, range_with_len}
+use Rattle.std.specs.Prelude.{◌≡◌, ◌⊎◌, ℕ, Bool, true, false, List, [], ◌∷◌, ◌++◌, Option, Some, None, map, length, IfSome}
+use Rattle.std.specs.List.{flat_map, range_with_len, AllByRecursion}
 use Rattle.sk_device.specs.Disk.{Disk}
 use Rattle.sk_rows.specs.declared.table.Table.{Table}
 use Rattle.sk_rows.specs.declared.statement.Statement.{Statement}
@@ -23,7 +23,7 @@ use Rattle.sk_script.specs.declared.script.Script.{Script}
 use Rattle.sk_script.specs.declared.script.ScriptLine.{ScriptLine}
 use Rattle.sk_script.specs.Limits.{most_sessions}
 use Rattle.sk_text.specs.Text.{reply_lines, flush_text, report}
-use Rattle.sk_serial.specs.Flushed.{is_broken}
+use Rattle.sk_serial.specs.Flushed.{is_broken, IsPast}
 use Rattle.sk_serial.specs.Saving.{Saved, saved_in, saved_first, saved_by, saved_last}
 use Rattle.sk_serial.specs.Showing.{HasSaved, IsOnDisk}
 use Rattle.sk_serial.specs.Waiting.{AreOver, WaitsOn}
@@ -94,6 +94,11 @@ saved_after s [] = s
 saved_after s (Answered t ∷ cs) = saved_after s cs
 saved_after s (Flushed note ∷ cs) = saved_after (saved_by note s) cs
 
+-- a flush that was refused for the length of a log came to one past the greatest
+abbrev pub FullPast : ℕ → Came → Type 0
+FullPast logmax (Answered t) = Unit {0}
+FullPast logmax (Flushed note) = IsPast logmax note.refused
+
 -- ---- which lines are played
 
 -- STOP comes next
@@ -123,14 +128,17 @@ IsLast false (Some note) = Unit {0}
 IsLast true None = Unit {0}
 IsLast true (Some note) = ⊥
 
--- A run over these tables that began so, of which this came, has ended so: what it hands out, the text of its lines, what is saved of it, and its
--- last reply. What the table of refusals refuses each of its sessions was answered so.
-pub record HasEnding (catalog : List Table) (b : Beginning) (came : List Came) (stopped : Bool) (ended : Ended) (text : List ℕ) (saved : Saved) (last : Option Reply) : Type 0 where
+-- A run over these tables that began so, whose logs may be so long, and of which this came, has ended so: what it hands out, the text of its lines,
+-- what is saved of it, and its last reply. What the table of refusals refuses each of its sessions was answered so, and a flush was refused for the
+-- length of a log only where that is past the greatest.
+pub record HasEnding (catalog : List Table) (b : Beginning) (logmax : ℕ) (came : List Came) (stopped : Bool) (ended : Ended) (text : List ℕ) (saved : Saved) (last : Option Reply) : Type 0 where
   pub flushes : List Flush
   pub ends : HasEnded catalog b (told_in came) flushes ended
   pub refused : ObeyTable catalog (told_in came) (range_with_len 1 most_sessions)
   pub flushed : Option FlushNote
   pub is_last : IsLast stopped flushed
+  pub full : AllByRecursion (FullPast logmax) came
+  pub last_full : IfSome flushed (λ (note : FlushNote). IsPast logmax note.refused)
   pub printed : text ≡ lines_text came ++ last_text flushed
   pub is_saved : saved ≡ saved_last flushed (saved_after (saved_first b.first) came)
   pub replied : last ≡ reply_after None came
@@ -141,7 +149,7 @@ printed_text None lines ended saved last = lines ++ report ended.order ended.rec
 printed_text (Some n) lines ended saved last = summary n ended.order ended.records last saved.cut
 
 -- So it is of these lines, up to where it was cut off, and this is printed.
-pub record HasShown (catalog : List Table) (b : Beginning) (lines : List ScriptLine) (transfers : Option ℕ) (ended : Ended) (saved : Saved) (text : List ℕ) : Type 0 where
+pub record HasShown (catalog : List Table) (b : Beginning) (logmax : ℕ) (lines : List ScriptLine) (transfers : Option ℕ) (ended : Ended) (saved : Saved) (text : List ℕ) : Type 0 where
   pub played : List ScriptLine
   pub left : List ScriptLine
   pub lines_are : lines ≡ played ++ left
@@ -151,7 +159,7 @@ pub record HasShown (catalog : List Table) (b : Beginning) (lines : List ScriptL
   pub cut_off : IsCutOff stopped came left
   pub said : List ℕ
   pub last : Option Reply
-  pub ending : HasEnding catalog b came stopped ended said saved last
+  pub ending : HasEnding catalog b logmax came stopped ended said saved last
   pub printed : text ≡ printed_text transfers said ended saved last
 
 -- a run at a moment: it, the text of its lines so far, what it keeps on disk, and its last reply
@@ -173,6 +181,7 @@ module _ {D : Type 0} (disk : Disk D) (mem : MemEngine → EngineTable → List 
     pub tables : n.run.catalog ≡ catalog
     pub sessions : length n.run.sessions ≡ most_sessions
     pub refused : AreRefused catalog 1 (told_in came) n.run.sessions
+    pub full : AllByRecursion (FullPast n.store.logmax) came
     pub printed : n.text ≡ lines_text came
     pub is_saved : saved_in n.store ≡ saved_after (saved_first b.first) came
     pub replied : n.last ≡ reply_after None came
@@ -222,6 +231,7 @@ module _ {D : Type 0} (disk : Disk D) (mem : MemEngine → EngineTable → List 
     pub settles : SettlesOn old.run old.store new.run new.store
     pub waits : WaitsOn old.run old.store.queued new.run new.store.queued
     pub catalog : new.run.catalog ≡ old.run.catalog
+    pub full : IfSome flushed (λ (note : FlushNote). IsPast old.store.logmax note.refused)
     pub printed : new.text ≡ old.text ++ last_text flushed
     pub is_saved : saved_in new.store ≡ saved_last flushed (saved_in old.store)
     pub replied : new.last ≡ old.last
@@ -229,4 +239,4 @@ module _ {D : Type 0} (disk : Disk D) (mem : MemEngine → EngineTable → List 
   -- whatever came so far: it has ended so, its disk shows it, and these were told
   abbrev pub EndsSo : Now D → Bool → Ended → List ℕ → Saved → Option Reply → D → Bool → Type 0
   EndsSo old stopped x text saved last device broken = (catalog : List Table) (b : Beginning) (begun : D) (came : List Came) → HasPlayed catalog b begun came old
-      → HasEnding catalog b came stopped x text saved last × IsOnDisk disk catalog b begun x device saved.cut broken × Acknowledged x.records x.order saved.receipts saved.cut
+      → HasEnding catalog b old.store.logmax came stopped x text saved last × IsOnDisk disk catalog b begun x device saved.cut broken × Acknowledged x.records x.order saved.receipts saved.cut

@@ -17,6 +17,7 @@ use Rattle.sk_script.specs.declared.script.ScriptFault.TheVariants as fault
 use Rattle.sk_script.specs.Generated.{generated}
 use Rattle.sk_script.specs.Script.{script_of}
 use Rattle.sk_script.specs.Limits.{most_read}
+use Rattle.sk_script.specs.Options.{settings_of}
 use Rattle.sk_text.specs.Text.{script_fault_text}
 use Rattle.sk_run.specs.declared.ended.Ended.{Ended}
 use Rattle.sk_serial.specs.declared.ending.Shown.{Shown}
@@ -150,7 +151,7 @@ module _ {D : Type 0} (disk : Disk D) (faults : D → ℕ) where
     pub opened : Opened
     pub begun : D
     pub starts : StartsFrom disk faults script (is_some transfers) was opened begun
-    pub shown : HasShown opened.catalog (beginning opened) script.lines transfers ended saved text
+    pub shown : HasShown opened.catalog (beginning opened) (settings_of script.options).logmax script.lines transfers ended saved text
     pub prefixes : IsTrue disk.tells → LeavesOnly disk (ShowsSome opened.catalog opened.rows ended.order ended.points) begun now
     pub at_end : IsTrue disk.tells → (image : Image) → disk.may_leave now image → ShowsPrefix opened.catalog opened.rows ended.order saved.cut image ⊎ ((broken ≡ true) × ShowsLater opened.catalog opened.rows ended.order ended.points saved.cut image)
     pub grows : Grows disk faults begun now

@@ -17,9 +17,10 @@ module _ {D : Type 0} (disk : Disk D) (faults : D → ℕ) where
     pub images : IsTrue disk.tells → Steps disk OnlyGrows old new
     pub later : faults old ≤ faults new
 
-  -- the store only grew, and where it broke meanwhile its disk failed
+  -- the store only grew, a log may be as long as before, and where it broke meanwhile its disk failed
   pub record Saves (old new : Kept D) : Type 0 where
     pub grows : Grows old.disk new.disk
+    pub limit : new.logmax ≡ old.logmax
     pub broke : new.broken ≡ true → (old.broken ≡ true) ⊎ Rose (faults old.disk) (faults new.disk)
 
 -- who was told that a commit is durable, and the durable cut

@@ -24,12 +24,9 @@ use sk_model::{Point, Tables};
 use sk_recover::Opened;
 use sk_rows::{Catalog, Copies, NoMemory};
 use sk_run::Run;
-use sk_script::Settings;
+use sk_script::{MOST_SESSIONS, Settings};
 use sk_store::StoreEngine;
 use std::alloc::Global;
-
-/// The sessions that a script may have.
-const MOST_SESSIONS: u16 = 64;
 
 /// A run over these tables and rows, whose numbers start from this cut.
 fn run_over(
@@ -55,7 +52,7 @@ fn run_over(
         settings.partitions,
         settings.points,
         cut,
-        MOST_SESSIONS,
+        MOST_SESSIONS as u16,
     )
 }
 
@@ -71,6 +68,7 @@ pub(crate) fn begin<D: Device + Drop, F: Teller + Drop>(
     requires tells { F.is_true tell }
     ensures begun { IfOk result (λ p. spec.HasPlayed D.disk ⟦<MemEngine as Engine>⟧.stands ⟦<StoreEngine as Engine>⟧.stands stored.opened.catalog (beginning stored.opened) stored.disk [] (spec.now p.run (string_bytes p.text) p.store p.last)) }
     ensures disk { IfOk result (λ p. p.store.disk ≡ stored.disk) }
+    ensures limit { IfOk result (λ p. p.store.logmax ≡ settings.logmax) }
     ensures open { IfOk result (λ p. (p.ended ≡ false) × (p.store.broken ≡ false)) }
     ensures halted { IfErr result (λ h. (h.disk ≡ stored.disk) × (h.fault ≡ run_fault.NoMemory)) }
 {

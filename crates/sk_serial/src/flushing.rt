@@ -5,7 +5,7 @@ ghost use Rattle.sk_run.specs.Flushing.{KeepsStill};
 ghost use Rattle.sk_model.specs.declared.receipt.FlushFault.TheVariants as fault;
 ghost use Rattle.sk_serial.specs.Saving.{Grows, Saves, saved_in, saved_by};
 ghost use Rattle.sk_serial.specs.Showing.{IsStill, Appends, SavesOn, batch_of};
-ghost use Rattle.sk_serial.specs.Flushed.{is_broken};
+ghost use Rattle.sk_serial.specs.Flushed.{is_broken, IsPast};
 ghost use Rattle.sk_serial.specs.declared.run_fault.RunFault.TheVariants as run_fault;
 
 use crate::halt::{Halt, starved};
@@ -48,6 +48,7 @@ fn written<D: Device + Drop, F: Teller + Drop>(
     ensures open { IfOk result (λ note. is_broken note ≡ store.new.broken) }
     ensures saved { IfOk result (λ note. saved_in store.new ≡ saved_by note (saved_in store.old)) }
     ensures queued { store.new.queued ≡ store.old.queued }
+    ensures full { IfOk result (λ note. IsPast store.old.logmax note.refused) }
 {
     let Found {
         cut,
@@ -81,6 +82,7 @@ fn find_and_write<D: Device + Drop, F: Teller + Drop>(
     ensures open { IfOk result (λ note. is_broken note ≡ store.new.broken) }
     ensures saved { IfOk result (λ note. saved_in store.new ≡ saved_by note (saved_in store.old)) }
     ensures queued { store.new.queued ≡ store.old.queued }
+    ensures full { IfOk result (λ note. IsPast store.old.logmax note.refused) }
 {
     match run.find_batch(alloc, store.cut()) {
         Ok(found) => written(alloc, store, found),
@@ -105,6 +107,7 @@ pub(crate) fn flush<D: Device + Drop, F: Teller + Drop>(
     ensures open { IfOk result (λ f. is_broken f.2 ≡ f.1.broken) }
     ensures saved { IfOk result (λ f. saved_in f.1 ≡ saved_by f.2 (saved_in store)) }
     ensures queued { IfOk result (λ f. f.1.queued ≡ store.queued) }
+    ensures full { IfOk result (λ f. IsPast store.logmax f.2.refused) }
     ensures halted { IfErr result (λ h. Grows D.disk D.faults store.disk h.disk) }
     ensures starved { IfErr result (λ h. h.fault ≡ run_fault.NoMemory) }
 {

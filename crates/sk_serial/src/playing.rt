@@ -82,6 +82,7 @@ pub(crate) fn queue_last<D: Device + Drop, F: Teller + Drop>(
     ensures disk { store.new.disk ≡ store.old.disk }
     ensures open { store.new.broken ≡ store.old.broken }
     ensures saved { saved_in store.new ≡ saved_in store.old }
+    ensures limit { store.new.logmax ≡ store.old.logmax }
     ensures waits { WaitsOn run.now store.old.queued run.now store.new.queued }
 {
     if let Some(record) = run.last_record(session) {
@@ -100,6 +101,7 @@ pub(crate) fn reserved<D: Device + Drop, F: Teller + Drop>(
     ensures open { IfOk result (λ s. s.broken ≡ store.broken) }
     ensures saved { IfOk result (λ s. saved_in s ≡ saved_in store) }
     ensures queued { IfOk result (λ s. s.queued ≡ store.queued) }
+    ensures limit { IfOk result (λ s. s.logmax ≡ store.logmax) }
     ensures halted { IfErr result (λ h. h.disk ≡ store.disk) }
     ensures starved { IfErr result (λ h. h.fault ≡ run_fault.NoMemory) }
 {

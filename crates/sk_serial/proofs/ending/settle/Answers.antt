@@ -8,7 +8,7 @@ use Rattle.sk_serial.proofs.Saves.{saves_same, grows_same, err_grows}
 use Rattle.sk_serial.proofs.ending.settle.Goals as goal
 
 pub loop-before-init : goal.loop-before-init
-loop-before-init g c = record { settles = settles_none mem_stands store_stands c.args.run; tables = refl; known = c.requires.few; disk = refl; whole = refl; saved = refl; waits = λ h. h }
+loop-before-init g c = record { settles = settles_none mem_stands store_stands c.args.run; tables = refl; known = c.requires.few; disk = refl; limit = refl; whole = refl; saved = refl; waits = λ h. h }
 
 pub returns-in_err-store-clause-halted : goal.returns-in_err-store-clause-halted
 returns-in_err-store-clause-halted g c =
@@ -24,6 +24,7 @@ loop-before-preserved g c = record {
   tables = c.in-Ok.ensures.tables ∙ c.loop-before.invariant.tables;
   known = c.in-Ok.ensures.sessions ∙ c.loop-before.invariant.known;
   disk = c.queue_last.ensures.disk ∙ c.in_ok-store.ensures.disk ∙ c.loop-before.invariant.disk;
+  limit = c.queue_last.ensures.limit ∙ c.in_ok-store.ensures.limit ∙ c.loop-before.invariant.limit;
   whole = c.queue_last.ensures.open ∙ c.in_ok-store.ensures.open ∙ c.loop-before.invariant.whole;
   saved = c.queue_last.ensures.saved ∙ c.in_ok-store.ensures.saved ∙ c.loop-before.invariant.saved;
   waits = waits_on c.args.run c.loop-before.run c.in-Ok.settled c.args.store.queued c.loop-before.store.queued c.queue_last.new.store.queued c.loop-before.invariant.waits
@@ -32,4 +33,4 @@ loop-before-preserved g c = record {
 }
 
 pub returns-clause-saves : goal.returns-clause-saves
-returns-clause-saves g c = saves_same g.D.Device.disk g.D.Device.faults c.args.store c.loop-before.store c.loop-before.invariant.disk c.loop-before.invariant.whole
+returns-clause-saves g c = saves_same g.D.Device.disk g.D.Device.faults c.args.store c.loop-before.store c.loop-before.invariant.disk c.loop-before.invariant.whole c.loop-before.invariant.limit

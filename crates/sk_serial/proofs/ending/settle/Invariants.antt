@@ -13,6 +13,7 @@ invariant-loop-before g l = record {
   tables : l.run.catalog ≡ l.fn.run.catalog;
   known : length l.run.sessions ≡ most_sessions;
   disk : l.store.disk ≡ l.fn.store.disk;
+  limit : l.store.logmax ≡ l.fn.store.logmax;
   whole : l.store.broken ≡ l.fn.store.broken;
   saved : saved_in l.store ≡ saved_in l.fn.store;
   waits : WaitsOn l.fn.run l.fn.store.queued l.run l.store.queued;

@@ -1,9 +1,12 @@
 -- The batch was written, or nothing was, or the disk failed.
-use Rattle.std.proofs.Common.{Err, refl, sym, ap, ◌∙◌}
-use Rattle.sk_cut.specs.Batches.{same_cut}
+use Rattle.std.proofs.Common.{Err, refl, sym, ap, subst, ◌∙◌}
+use Rattle.sk_cut.specs.Batches.{same_cut, stored_text, body_text, full_length}
+use Rattle.sk_durable.specs.Refusing.{RefusesOrNot}
 use Rattle.sk_durable.specs.declared.refused.Refused.TheVariants as refused
+use Rattle.sk_serial.specs.Flushed.{IsPast}
 use Rattle.sk_serial.specs.Showing.{batch_of}
 use Rattle.sk_serial.proofs.Showing.{wrote_ok, wrote_err}
+use Rattle.sk_serial.proofs.Full.{past_refused}
 use Rattle.sk_serial.proofs.flushing.written.Goals as goal
 
 pub returns-in-Ok-clause-writes : goal.returns-in-Ok-clause-writes
@@ -14,3 +17,11 @@ pub returns-in-Err-Flush-clause-writes : goal.returns-in-Err-Flush-clause-writes
 returns-in-Err-Flush-clause-writes g c = wrote_err g.D.Device.disk c.args.store.now c.flush.new.self (batch_of c.args.found) c.in-Err-Flush.fault c.in-Err-Flush.ensures.at_most
     (λ same. sym c.in-Err-Flush.field-0-is ∙ c.in-Err-Flush.ensures.equal same) (λ differs. c.in-Err-Flush.ensures.refused (λ is. differs (sym c.in-Err-Flush.field-0-is ∙ is)))
     (λ is. c.in-Err-Flush.ensures.broken (ap Err (c.in-Err-Flush.field-0-is ∙ ap refused.Flush is))) c.in-Err-Flush.ensures.told.2
+
+pub returns-in-Err-Flush-clause-full : goal.returns-in-Err-Flush-clause-full
+returns-in-Err-Flush-clause-full g c =
+    let batch = batch_of c.args.found in
+    let kept = c.args.store.now in
+    subst (IsPast kept.logmax) (sym c.noted-2.ensures.refused) (past_refused kept.logmax kept.ends (stored_text batch) (body_text kept.ends batch) (same_cut c.args.found.cut kept.cut) c.in-Err-Flush.fault
+    (λ same. sym c.in-Err-Flush.field-0-is ∙ c.in-Err-Flush.ensures.equal same)
+    (λ differs. subst (RefusesOrNot (full_length kept.logmax kept.ends (stored_text batch) (body_text kept.ends batch))) c.in-Err-Flush.field-0-is (c.in-Err-Flush.ensures.full differs)))

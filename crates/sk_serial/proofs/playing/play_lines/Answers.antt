@@ -21,7 +21,7 @@ loop-line-init g c =
       texts = subst (AllByRecursion (λ (x : ScriptLine). says_short x.what ≡ true)) (sym all) c.requires.texts;
       known = c.requires.known;
       whole = λ e. c.requires.open.1;
-      saves = saves_same g.D.Device.disk g.D.Device.faults c.args.begun.store c.args.begun.store refl refl;
+      saves = saves_same g.D.Device.disk g.D.Device.faults c.args.begun.store c.args.begun.store refl refl refl;
       played = subst (λ (e : Bool). SoFar g.D.Device.disk mem_stands store_stands old c.into_iter-line-iterator.result.rest.items old e c.into_iter-line-iterator.result.rest.items) (sym c.requires.open.0)
           (so_far_first g.D.Device.disk mem_stands store_stands old c.into_iter-line-iterator.result.rest.items);
     }

@@ -23,6 +23,7 @@ returns-clause-played g c =
     (c.queue_last.ensures.open ∙ ap (λ (k : Kept _). k.broken) c.in_ok-run.ensures.store ∙ c.in_ok-store.ensures.open)
     (c.queue_last.ensures.saved ∙ ap saved_in c.in_ok-run.ensures.store ∙ c.in_ok-store.ensures.saved))
     (c.queue_last.ensures.saved ∙ ap saved_in c.in_ok-run.ensures.store ∙ c.in_ok-store.ensures.saved)
+    (c.queue_last.ensures.limit ∙ ap (λ (k : Kept _). k.logmax) c.in_ok-run.ensures.store ∙ c.in_ok-store.ensures.limit)
     (waits_on c.args.playing.run c.in_ok-run.run' c.in_ok-run.run' c.args.playing.store.queued c.in_ok-run.store.queued c.queue_last.new.store.queued
     (waits_same c.args.playing.run c.in_ok-run.run' c.args.playing.store.queued c.in_ok-run.store.queued c.in_ok-run.ensures.over (ap (λ (k : Kept _). k.queued) c.in_ok-run.ensures.store ∙ c.in_ok-store.ensures.queued)) c.queue_last.ensures.waits)
     refl)
@@ -31,6 +32,7 @@ pub returns-clause-saves : goal.returns-clause-saves
 returns-clause-saves g c = saves_same g.D.Device.disk g.D.Device.faults c.args.playing.store c.queue_last.new.store
     (c.queue_last.ensures.disk ∙ ap (λ (k : Kept _). k.disk) c.in_ok-run.ensures.store ∙ c.in_ok-store.ensures.disk)
     (c.queue_last.ensures.open ∙ ap (λ (k : Kept _). k.broken) c.in_ok-run.ensures.store ∙ c.in_ok-store.ensures.open)
+    (c.queue_last.ensures.limit ∙ ap (λ (k : Kept _). k.logmax) c.in_ok-run.ensures.store ∙ c.in_ok-store.ensures.limit)
 
 pub returns-in_err-store-clause-halted : goal.returns-in_err-store-clause-halted
 returns-in_err-store-clause-halted g c =

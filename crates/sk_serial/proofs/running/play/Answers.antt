@@ -1,9 +1,10 @@
 -- The script was played to its end; or memory was wanting behind the opening.
 use Rattle.std.specs.Prelude.{◌≡◌, List, is_some}
 use Rattle.std.specs.String.{string_bytes}
-use Rattle.std.proofs.Common.{subst}
+use Rattle.std.proofs.Common.{ap, subst, ◌∙◌}
 use Rattle.sk_run.proofs.Stands.{mem_stands, store_stands}
 use Rattle.sk_script.specs.declared.script.ScriptLine.{ScriptLine}
+use Rattle.sk_script.specs.declared.settings.Settings.{Settings}
 use Rattle.sk_serial.specs.declared.run_fault.RunFault.TheVariants as run_fault
 use Rattle.sk_serial.specs.Played.{now, PlaysAll}
 use Rattle.sk_serial.specs.Running.{HasText, IsPlayed, HasHalted, saved_of}
@@ -35,7 +36,7 @@ returns-clause-shown g c =
     if_ok c.with_text.result (λ t. HasText c.args.transfers c.in-Ok-end.shown t) (λ t. IsPlayed g.D.Device.disk g.D.Device.faults c.args.script c.args.transfers c.args.disk t.ended (saved_of t) (string_bytes t.text) t.broken t.disk)
     (λ t has. is_played g.D.Device.disk g.D.Device.faults mem_stands store_stands c.args.script c.args.transfers c.args.disk c.in-Ok.stored.disk c.in-Ok.stored.opened start end c.in-Ok-play_lines.playing.ended
     c.in-Ok-begin.begun.store c.in-Ok-play_lines.playing.store c.in-Ok-end.shown t c.logs_hold_their_own.ensures starts c.in-Ok-begin.ensures.begun plays c.in-Ok-end.ensures.ends c.in-Ok-begin.ensures.disk c.in-Ok-begin.ensures.open.1
-    c.in-Ok-play_lines.ensures.saves c.in-Ok-end.ensures.kept has)
+    c.in-Ok-play_lines.ensures.saves (c.in-Ok-play_lines.ensures.saves.limit ∙ c.in-Ok-begin.ensures.limit ∙ ap (λ (s : Settings). s.logmax) c.settings-settings.ensures.numbers) c.in-Ok-end.ensures.kept has)
     c.with_text.ensures.text
 
 pub returns-clause-halted : goal.returns-clause-halted
