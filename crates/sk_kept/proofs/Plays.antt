@@ -15,12 +15,13 @@ use Rattle.sk_weave.specs.Points.{Staircase}
 use Rattle.sk_linked.specs.Reads.{PairIf}
 use Rattle.sk_linked.specs.Traces.{drawn_at, Transaction, In, Distinct, DrewUnlike, Whose, Known, MakerOf, IsAtHorizons, PointsMade}
 use Rattle.sk_linked.specs.Joining.{Share, Counted, MayRecords, all_transactions}
+use Rattle.sk_linked.specs.Causes.{Drawer as AnyDrawer}
 use Rattle.sk_linked.specs.Kept.{Account, Session, Play, transaction_in, share_in, shares_in, traces_in, IsAccount, IsPlay}
 use Rattle.sk_linked.proofs.Members.{each_in, in_each, distinct_same}
 use Rattle.sk_linked.proofs.Joining.{InFlat, flat_in, in_flat, distinct_all}
 use Rattle.sk_session.specs.Common.{Common}
 use Rattle.sk_session.specs.Facts.{facts_of}
-use Rattle.sk_kept.specs.Held.{Trace, drawn_of, IsHeld, Alone, Made, Drew, Maker, Caller, Called, Sourced}
+use Rattle.sk_kept.specs.Held.{Trace, drawn_of, IsHeld, Alone, Made, Drew, Drawer, Maker, Caller, Called, Sourced}
 use Rattle.sk_kept.specs.Playing.{trace_of, traces_of_session, traces_of_play, IsAccounted, Plays, PlaysArePlayed}
 use Rattle.sk_kept.proofs.Journals.{horizons_stay}
 
@@ -150,6 +151,16 @@ module _ (p : Play) (c : Common) (h : Plays p c) where
 
   drew_alone : (name : EngineName) (n : ℕ) (t u : Transaction) → In t (all_transactions (shares_in p)) → In u (all_transactions (shares_in p)) → drawn_at name t.drew ≡ Some n → drawn_at name u.drew ≡ Some n → t ≡ u
   drew_alone name = alone (Drew name) (λ (t : Transaction) (n : ℕ). drawn_at name t.drew ≡ Some n) (λ a n e. sym (drawn_same name a) ∙ e) (h.held.unlike name)
+
+  -- who drew a number is one of its transactions
+  pub drawer_of : (name : EngineName) (n : ℕ) → Drawer name (traces_of_play p) n → AnyDrawer (traces_in p) name n
+  drawer_of name n d =
+      let w : Held_by d.who = held_by d.who d.among in
+      record {
+        who = transaction_in w.account;
+        among = transaction_among w.session w.among w.account w.here;
+        drew = drawn_same name w.account ∙ ap (λ (t : Trace). drawn_of name t.facts) (sym w.is) ∙ d.drew;
+      }
 
   unlike_from : (name : EngineName) (ts : List Transaction) → Distinct ts → ((n : ℕ) (t u : Transaction) → In t ts → In u ts → drawn_at name t.drew ≡ Some n → drawn_at name u.drew ≡ Some n → t ≡ u) → DrewUnlike name ts
   unlike_from name [] d k = tt

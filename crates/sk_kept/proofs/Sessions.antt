@@ -345,7 +345,7 @@ turn_at most n at.Ended (turn.Said r) w asks = (r, refl)
 turn_at most n at.Ended (turn.Ask a) w asks = absurd w
 
 -- behind a statement
-start_turn : (catalog : List Table) (old : Session) (talks : List Talk) (s : Option Statement) (new : Session) (t : Turn) → IsBetween old.at → SessionTalks catalog old talks → Starts catalog old s new t → TurnAt new.at t
+pub start_turn : (catalog : List Table) (old : Session) (talks : List Talk) (s : Option Statement) (new : Session) (t : Turn) → IsBetween old.at → SessionTalks catalog old talks → Starts catalog old s new t → TurnAt new.at t
 start_turn catalog old talks s new t between h starts = turn_at 0 (0 + 14) new.at t (starts_within 0 catalog old.number old.records old.at s _ starts.moves) (λ live doing e. go live doing e old.at refl)
   where
     go : (live : Live) (doing : Job) → new.at ≡ at.Asking live doing → (there : At) → old.at ≡ there → t ≡ turn.Ask (wished live doing)
@@ -360,11 +360,11 @@ start_turn catalog old talks s new t between h starts = turn_at 0 (0 + 14) new.a
     go live doing e (at.Asking x d) o = absurd (subst IsBetween o between)
 
 -- as a session is left
-leave_turn : (old new : Session) (t : Turn) → IsBetween old.at → Leaves old new t → TurnAt new.at t
+pub leave_turn : (old new : Session) (t : Turn) → IsBetween old.at → Leaves old new t → TurnAt new.at t
 leave_turn old new t between leaves = turn_at 0 3 new.at t (leaves_within 0 old.records old.at _ leaves.moves) (leave_waits old new t between leaves)
 
 -- behind an answer
-take_turn : (catalog : List Table) (old : Session) (talks : List Talk) (got : Got) (new : Session) (t : Turn) (live : Live) (doing : Job) → old.at ≡ at.Asking live doing → SessionTalks catalog old talks → WishFits (wished live doing) got → is_early got ≡ false → Takes catalog old got new t
+pub take_turn : (catalog : List Table) (old : Session) (talks : List Talk) (got : Got) (new : Session) (t : Turn) (live : Live) (doing : Job) → old.at ≡ at.Asking live doing → SessionTalks catalog old talks → WishFits (wished live doing) got → is_early got ≡ false → Takes catalog old got new t
     → TurnAt new.at t
 take_turn catalog old talks got new t live doing is h fits late takes = turn_at 0 (0 + 14) new.at t (takes_left 0 catalog old new (wished live doing) t got (job_left 0 doing + 1) within late takes) asks
   where
@@ -378,7 +378,7 @@ take_turn catalog old talks got new t live doing is h fits late takes = turn_at 
     asks x d e = (subst (λ y. SpeaksAt catalog old.records live.label new.records y t (k.0 ++ own_call (wished live doing) got)) e (subst (λ y. TakeKept catalog old.records y got (moved_to new t)) is (takes_keep catalog old got new t takes) k.0 k.2 fits)).3
 
 -- who has said its reply asks for nothing
-said_asks : {w : Wish} → ((r : Reply) × (turn.Ask w ≡ turn.Said r)) → ⊥
+pub said_asks : {w : Wish} → ((r : Reply) × (turn.Ask w ≡ turn.Said r)) → ⊥
 said_asks (r, q) = cc
 
 -- and is between two lines

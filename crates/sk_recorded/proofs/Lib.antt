@@ -18,7 +18,9 @@ pub mod Flushes
 pub mod Growing
 -- the run
 pub mod Paused
--- what is common to its sessions grows
+-- what is common to its sessions grows, and what they say that the registry refused, it refused; theory for others
 pub mod Grown
+pub mod Denied
+pub mod Refused
 -- worked examples
 mod FlushExamples

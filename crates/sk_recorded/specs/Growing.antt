@@ -1,4 +1,4 @@
--- What is common to the sessions of a run only grows: journals and points are appended to, and nothing of them is lost.
+-- What is common to the sessions of a run only grows: journals and points are appended to, counters rise, and nothing of them is lost.
 use Rattle.std.specs.Prelude.{◌≡◌, ℕ, List, ◌∷◌, ◌++◌, Option}
 use Rattle.sk_rows.specs.declared.table.Table.{Table}
 use Rattle.sk_rows.specs.declared.statement.Statement.{Statement}
@@ -9,20 +9,22 @@ use Rattle.sk_model.specs.declared.call.Entry.{Entry}
 use Rattle.sk_model.specs.declared.call.EngineCall.{EngineCall}
 use Rattle.sk_model.specs.declared.call.EngineReply.{EngineReply}
 use Rattle.sk_model.specs.Talks.{Talk}
+use Rattle.sk_weave.specs.Registry.{Regs, IsSound, Grows as RegsGrow}
 use Rattle.sk_commit.specs.declared.asking.Wish.{Wish}
 use Rattle.sk_commit.specs.declared.asking.Got.{Got}
 use Rattle.sk_session.specs.declared.session.Session.{Session}
 use Rattle.sk_session.specs.EachTalk.{IsBetween}
 use Rattle.sk_session.specs.Conversing.{Conversed, HasLeft}
-use Rattle.sk_session.specs.Common.{Common, Answered}
+use Rattle.sk_session.specs.Common.{Common, RegsAnswer, Answered}
+use Rattle.sk_session.specs.Denied.{SessionDenied}
 use Rattle.sk_kept.specs.Flushing.{AnsweredFlush, Cuts}
 use Rattle.sk_kept.specs.Sessions.{Player, IsRun, AnswersRight, GoesOn}
 
--- what the engines began with stays, and each journal and the points have what they had, with more behind it or nothing
+-- what the engines began with stays, each journal has what it had, with more behind it or nothing, and the registry has gone on
 pub record Grows (c d : Common) : Type 0 where
   pub first : d.first ≡ c.first
   pub journals : (name : EngineName) → (more : List Entry) × (d.journals name ≡ c.journals name ++ more)
-  pub points : (more : List Point) × (d.regs.points ≡ c.regs.points ++ more)
+  pub regs : RegsGrow c.regs d.regs
 
 -- each grows to itself, and what has grown grows on
 abbrev pub GrowsOn : Type 0
@@ -39,6 +41,14 @@ FlushCallsGrow = (c d : Common) (name : EngineName) (asked : EngineCall) (reply 
 -- and by a flush's cut
 abbrev pub CutsGrow : Type 0
 CutsGrow = (c d : Common) (x y : ℕ) → Cuts c x y d → Grows c d
+
+-- a call of the registry was answered so in a state that this one has come of, or in this one
+pub record HeardBy (c : Common) (asked : Wish) (got : Got) : Type 0 where
+  pub was : Regs
+  pub sound : IsSound was
+  pub grown : RegsGrow was c.regs
+  pub next : Regs
+  pub answered : RegsAnswer was asked got next
 
 -- the desk stands for what c has grown to
 abbrev pub StandsGrown : {D : Type 0} → (D → Common → Type 0) → Common → D → Common → Type 0
@@ -58,14 +68,15 @@ abbrev pub LeavesGrow : {D : Type 0} → (D → Wish → Got → D → Type 0) �
 LeavesGrow {D} answers stands = AnswersRight answers stands → (catalog : List Table) (old : Session) (desk : D) (new : Session) (desk_then : D) (said : Reply) (c : Common)
     → stands desk c → HasLeft answers catalog old desk new desk_then said → (d : Common) × stands desk_then d × Grows c d
 
--- Such a line keeps what holds of all sessions, of the very common state to which it grows.
+-- Such a line keeps what holds of all sessions, of the very common state to which it grows; and what the session's records say that the registry
+-- refused, it refused in a state which that has come of.
 abbrev pub LinesKeepGrowing : {D : Type 0} → (D → Wish → Got → D → Type 0) → (D → Common → Type 0) → Type 0
 LinesKeepGrowing {D} answers stands = AnswersRight answers stands → (catalog : List Table) (first : Point) (points : List Point) (c : Common) (before : List Player) (old : Session) (talks : List Talk) (after : List Player) (desk : D)
     (s : Option Statement) (new : Session) (desk_then : D) (said : Reply) → stands desk c → IsRun catalog first points c (before ++ record { session = old; talks = talks } ∷ after) → IsBetween old.at
-    → Conversed answers catalog old desk s new desk_then said → GoesOn (StandsGrown stands c) catalog first points c before new after desk_then × IsBetween new.at
+    → Conversed answers catalog old desk s new desk_then said → (goes : GoesOn (StandsGrown stands c) catalog first points c before new after desk_then) × IsBetween new.at × (SessionDenied (HeardBy c) old → SessionDenied (HeardBy goes.common) new)
 
 -- And so does leaving a session.
 abbrev pub LeavesKeepGrowing : {D : Type 0} → (D → Wish → Got → D → Type 0) → (D → Common → Type 0) → Type 0
 LeavesKeepGrowing {D} answers stands = AnswersRight answers stands → (catalog : List Table) (first : Point) (points : List Point) (c : Common) (before : List Player) (old : Session) (talks : List Talk) (after : List Player) (desk : D)
     (new : Session) (desk_then : D) (said : Reply) → stands desk c → IsRun catalog first points c (before ++ record { session = old; talks = talks } ∷ after) → IsBetween old.at
-    → HasLeft answers catalog old desk new desk_then said → GoesOn (StandsGrown stands c) catalog first points c before new after desk_then × IsBetween new.at
+    → HasLeft answers catalog old desk new desk_then said → (goes : GoesOn (StandsGrown stands c) catalog first points c before new after desk_then) × IsBetween new.at × (SessionDenied (HeardBy c) old → SessionDenied (HeardBy goes.common) new)

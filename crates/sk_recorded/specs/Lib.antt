@@ -5,3 +5,4 @@ pub mod Flushes
 pub mod Recorded
 pub mod Written
 pub mod Growing
+pub mod Refused

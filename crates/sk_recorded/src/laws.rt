@@ -4,6 +4,7 @@ ghost use Rattle.sk_recorded.specs.Entries.{PointsFromAreEnough};
 ghost use Rattle.sk_recorded.specs.Flushes.{FlushesGoOn, FlushesStay};
 ghost use Rattle.sk_recorded.specs.Growing.{AnsweredGrows, CutsGrow, FlushCallsGrow, GrowsOn};
 ghost use Rattle.sk_recorded.specs.Recorded.{EntriesAreWindows};
+ghost use Rattle.sk_recorded.specs.Refused.{RefusalsAreSaid};
 ghost use Rattle.sk_recorded.specs.Windows.{WindowsBegin, WindowsMeet};
 ghost use Rattle.sk_recorded.specs.Written.{ShowsBehind, StoredIsPrefix, WrittenIsOwned, WrittenIsStored};
 
@@ -75,4 +76,9 @@ pub fn flush_calls_grow()
 /// And so does a flush's cut.
 pub fn cuts_grow()
     ensures { CutsGrow }
+{}
+
+/// What the records of a run say that the registry refused, a check, a selection or a draw, it refused in a state that the run came through.
+pub fn refusals_are_said()
+    ensures { RefusalsAreSaid }
 {}

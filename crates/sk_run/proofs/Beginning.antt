@@ -20,12 +20,15 @@ use Rattle.sk_store.specs.Loading.{AreOpeningRows}
 use Rattle.sk_session.specs.declared.session.Session.{Session}
 use Rattle.sk_session.specs.EachTalk.{IsBetween}
 use Rattle.sk_session.specs.Starting.{fresh}
+use Rattle.sk_session.specs.Common.{Common}
+use Rattle.sk_session.specs.Denied.{SessionDenied}
 use Rattle.sk_session.proofs.Printing.{new_printed}
 use Rattle.sk_shared.specs.Shared.{Stands, first_common}
 use Rattle.sk_kept.specs.Running.{Differ}
 use Rattle.sk_kept.specs.Sessions.{Player}
 use Rattle.sk_kept.specs.Beginnings.{new_player}
 use Rattle.sk_kept.proofs.Beginnings.{first_is_run}
+use Rattle.sk_recorded.specs.Growing.{HeardBy}
 use Rattle.sk_run.specs.Told.{AreTold}
 use Rattle.sk_run.specs.Kept.{HasKept}
 use Rattle.sk_run.specs.State.{RunState}
@@ -46,6 +49,11 @@ players_are k (suc n) = ap (λ (ss : List Session). fresh k ∷ ss) (players_are
 all_between : (k n : ℕ) → Each (λ (p : Player). IsBetween p.session.at) (map new_player (range_with_len k n))
 all_between k zero = tt
 all_between k (suc n) = (tt, all_between (k + 1) n)
+
+-- nothing was refused yet
+none_denied : (c : Common) (k n : ℕ) → Each (λ (p : Player). SessionDenied (HeardBy c) p.session) (map new_player (range_with_len k n))
+none_denied c k zero = tt
+none_denied c k (suc n) = (record { records = tt; live = tt }, none_denied c (k + 1) n)
 
 -- no transaction is over yet
 all_fresh : (k n : ℕ) → HaveSome (map fresh (range_with_len k n))
@@ -75,6 +83,7 @@ module _ (mem : MemEngine → EngineTable → List Entry → Type 0) (store : St
     sessions_are = sessions ∙ players_are 1 n;
     run = first_is_run x.catalog start (first_common x.catalog rows partitions size start) (range_with_len 1 n) (record { common = stood.common; journals = λ name. refl; points = refl; mem = refl; store = refl }) (numbers_differ 1 n);
     between = all_between 1 n;
+    denied = none_denied (first_common x.catalog rows partitions size start) 1 n;
     over = subst HaveSome (sym sessions) (all_fresh 1 n);
     told = subst (AreTold 1 []) (sym sessions) (all_told 1 n);
     short = tt;

@@ -13,6 +13,7 @@ use Rattle.sk_model.specs.declared.call.EngineReply.{EngineReply}
 use Rattle.sk_model.specs.declared.call.EngineReply.TheVariants as reply
 use Rattle.sk_model.specs.declared.call.Entry.{Entry}
 use Rattle.sk_model.specs.Engine.{EngineTable}
+use Rattle.sk_model.proofs.Lists.{each_weaker}
 use Rattle.sk_weave.specs.declared.answer.CutFound.{CutFound}
 use Rattle.sk_linked.specs.Traces.{In, horizon_entry}
 use Rattle.sk_mem.specs.declared.engine.MemEngine.{MemEngine}
@@ -21,6 +22,8 @@ use Rattle.sk_store.specs.Loading.{AreOpeningRows}
 use Rattle.sk_chain.specs.Applying.{entered_reply}
 use Rattle.sk_session.specs.declared.session.Session.{Session}
 use Rattle.sk_session.specs.Common.{Common}
+use Rattle.sk_session.specs.Denied.{SessionDenied}
+use Rattle.sk_session.proofs.Denying.{denied_by_more}
 use Rattle.sk_shared.specs.Shared.{Stands}
 use Rattle.sk_shared.specs.declared.shared.Shared.{Shared}
 use Rattle.sk_shared.specs.Flushing.{FlushedWith, Flushed, HasCut, FindsCut, FindsOldest}
@@ -28,7 +31,9 @@ use Rattle.sk_kept.specs.Flushing.{Cuts}
 use Rattle.sk_kept.specs.Sessions.{Player, IsRun}
 use Rattle.sk_kept.proofs.Flushing.{flush_calls_keep, cuts_keep}
 use Rattle.sk_recorded.specs.Flushes.{Flush, AllFlush}
+use Rattle.sk_recorded.specs.Growing.{HeardBy}
 use Rattle.sk_recorded.proofs.Grown.{grows_none, grows_more, flush_calls_grow, cuts_grow}
+use Rattle.sk_recorded.proofs.Denied.{heard_on}
 use Rattle.sk_run.specs.Told.{RunLine, AreTold}
 use Rattle.sk_run.specs.State.{RunState}
 use Rattle.sk_run.specs.Over.{HaveSome}
@@ -141,6 +146,7 @@ module _ (mem : MemEngine → EngineTable → List Entry → Type 0) (store : St
     sessions_are = sessions ∙ k.sessions_are;
     run = subst (λ (tables : List Table). IsRun tables b.first (k.points ++ g.more) g.common k.players) (sym catalog) g.run;
     between = k.between;
+    denied = each_weaker (λ (p : Player). SessionDenied (HeardBy k.common) p.session) (λ (p : Player). SessionDenied (HeardBy g.common) p.session) (λ p d. denied_by_more (HeardBy k.common) (HeardBy g.common) (heard_on k.common g.common g.grows) p.session d) k.players k.denied;
     over = subst HaveSome (sym sessions) k.over;
     told = subst (AreTold 1 lines) (sym sessions) k.told;
     short = k.short;

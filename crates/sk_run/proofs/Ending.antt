@@ -8,6 +8,7 @@ use Rattle.sk_model.specs.declared.engine.EngineName.{EngineName}
 use Rattle.sk_model.specs.declared.commit.Commit.{Commit}
 use Rattle.sk_model.specs.declared.point.Point.{Point}
 use Rattle.sk_model.specs.declared.record.Record.{Record}
+use Rattle.sk_model.specs.declared.record.Said.{Said}
 use Rattle.sk_model.specs.declared.call.Entry.{Entry}
 use Rattle.sk_model.specs.Engine.{EngineTable}
 use Rattle.sk_model.specs.Places.{place}
@@ -17,7 +18,8 @@ use Rattle.sk_model.specs.Talks.{Talk}
 use Rattle.sk_model.proofs.Lists.{Each}
 use Rattle.sk_linked.specs.Reads.{Run as CommitRun, order_of}
 use Rattle.sk_linked.specs.Joining.{all_transactions}
-use Rattle.sk_linked.specs.Causes.{HasCauses}
+use Rattle.sk_linked.specs.Causes.{Ring, RegistrySaid, Caused, HasCauses}
+use Rattle.sk_linked.specs.Traces.{Traces}
 use Rattle.sk_linked.specs.Kept.{Account, Session as Spoken, Play, transaction_in, transactions_in, share_in, records_in, traces_in, IsPlay}
 use Rattle.sk_linked.specs.Traces.{run_of}
 use Rattle.sk_linked.specs.Headline.{place_of}
@@ -41,6 +43,8 @@ use Rattle.sk_kept.specs.Sessions.{Player}
 use Rattle.sk_kept.specs.Ended.{accounts_of, session_of, play_of, AreShort, IsPaused}
 use Rattle.sk_kept.proofs.Ended.{paused_is_one}
 use Rattle.sk_recorded.specs.Flushes.{Flush}
+use Rattle.sk_recorded.specs.Refused.{ring_of}
+use Rattle.sk_recorded.proofs.Refused.{refusals_are_said}
 use Rattle.sk_ledger.specs.Ledger.{IsLeftBy}
 use Rattle.sk_run.specs.Told.{RunLine, IsShort, AreTold, AreSaid, lines_of}
 use Rattle.sk_run.specs.State.{RunState}
@@ -108,6 +112,15 @@ places_in run js (s ∷ ss) =
     of_one : (accounts : List Account) → map (place_of run) (map transaction_in accounts) ≡ map (λ (r : Record). place (order_of run) r.mem r.store) (map (λ (a : Account). a.kept) accounts)
     of_one [] = refl
     of_one (a ∷ rest) = ap (λ (xs : List ℕ). place (order_of run) a.kept.mem a.kept.store ∷ xs) (of_one rest)
+
+-- what has its cause where the registry said it, and was said, is caused
+said_caused : (h : Traces) (ring : Ring) (r : Record) (said : List Said) → Each (λ (s : Said). RegistrySaid h ring r s.reply → Caused h ring r s.reply) said → Each (λ (s : Said). RegistrySaid h ring r s.reply) said → Each (λ (s : Said). Caused h ring r s.reply) said
+said_caused h ring r [] f k = tt
+said_caused h ring r (s ∷ said) f k = (f.0 k.0, said_caused h ring r said f.1 k.1)
+
+each_caused : (h : Traces) (ring : Ring) (rs : List Record) → Each (HasCauses h ring) rs → Each (λ (r : Record). Each (λ (s : Said). RegistrySaid h ring r s.reply) r.said) rs → Each (λ (r : Record). Each (λ (s : Said). Caused h ring r s.reply) r.said) rs
+each_caused h ring [] f k = tt
+each_caused h ring (r ∷ rs) f k = (said_caused h ring r r.said f.0 k.0, each_caused h ring rs f.1 k.1)
 
 -- the same points and records were left by the same run
 pub same_left : (p : Play) (ms ns : List Entry) (ps qs : List Point) (rs us : List Record) → ps ≡ qs → rs ≡ us → IsLeftBy p ms ns qs us → IsLeftBy p ms ns ps rs
@@ -188,7 +201,10 @@ module _ (mem : MemEngine → EngineTable → List Entry → Type 0) (store : St
         one = subst (OneDatabase x.catalog b.rows y.order y.places) (sym by.records_are)
             (subst (λ ps. OneDatabase x.catalog b.rows y.order ps (records_in play)) at
             (subst (λ cs. OneDatabase x.catalog b.rows cs (map (place_of run) (traces_in play).transactions) (records_in play)) (sym order) one.1));
-        caused = λ ring. subst (Each (HasCauses (traces_in play) ring)) (sym by.records_are) ((sessions_are_one play one.0).caused ring);
+        ring = ring_of k.common.regs;
+        caused = subst (Each (λ (r : Record). Each (λ (s : Said). Caused (traces_in play) (ring_of k.common.regs) r s.reply) r.said)) (sym by.records_are)
+            (each_caused (traces_in play) (ring_of k.common.regs) (records_in play) ((sessions_are_one play one.0).caused (ring_of k.common.regs))
+            (refusals_are_said x.catalog b.rows b.first k.points k.common k.players (paused b (lines ++ steps) fs x k) k.denied));
         numbered = subst (λ cs. AreByRecords cs y.records) (sym order) (subst (AreByRecords (order_of run)) (sym by.records_are) (numbered play one.0));
         steps = steps;
         are_steps = are_steps;

@@ -14,7 +14,7 @@ use Rattle.sk_model.specs.declared.call.Entry.{Entry}
 use Rattle.sk_model.specs.Database.{Tables}
 use Rattle.sk_model.specs.Engine.{EngineTable, engine_at}
 use Rattle.sk_model.specs.Talks.{Talk}
-use Rattle.sk_model.proofs.Lists.{Each, each_append}
+use Rattle.sk_model.proofs.Lists.{Each, each_append, each_weaker}
 use Rattle.sk_linked.specs.Reads.{number_at}
 use Rattle.sk_linked.specs.Traces.{In}
 use Rattle.sk_linked.proofs.Members.{in_front}
@@ -30,13 +30,15 @@ use Rattle.sk_session.specs.Conversing.{Exchange, Exchanges, Conversed, HasLeft}
 use Rattle.sk_session.specs.Printed.{LinePrints}
 use Rattle.sk_session.specs.Over.{OverStays}
 use Rattle.sk_session.specs.Common.{Common}
+use Rattle.sk_session.specs.Denied.{SessionDenied}
+use Rattle.sk_session.proofs.Denying.{denied_by_more}
 use Rattle.sk_shared.specs.Shared.{Stands, Answers}
 use Rattle.sk_kept.specs.Sessions.{Player, IsRun, AnswersRight, GoesOn}
 use Rattle.sk_kept.proofs.Middles.{each_others, each_focus, each_middle}
 use Rattle.sk_recorded.specs.Flushes.{Flush, AllFlush}
-use Rattle.sk_recorded.specs.Growing.{Grows, StandsGrown}
+use Rattle.sk_recorded.specs.Growing.{Grows, HeardBy, StandsGrown}
 use Rattle.sk_recorded.proofs.Growing.{flushes_stay}
-use Rattle.sk_recorded.proofs.Grown.{lines_keep_growing, leaves_keep_growing}
+use Rattle.sk_recorded.proofs.Denied.{heard_on, lines_keep_growing, leaves_keep_growing}
 use Rattle.sk_run.specs.Told.{RunLine, IsShort, AreTold}
 use Rattle.sk_run.specs.Kept.{KeepsOn}
 use Rattle.sk_run.specs.State.{RunState}
@@ -85,7 +87,7 @@ module _ (mem : MemEngine → EngineTable → List Entry → Type 0) (store : St
   -- what a session of the run did keeps what the run has kept, whatever the calls were that it made
   abbrev Goes : RunState → Session → Session → RunState → Type 0
   Goes old speaker spoken new = (first : Point) (points : List Point) (c : Common) (before : List Player) (talks : List Talk) (after : List Player) → Stands mem store old.shared c
-      → IsRun old.catalog first points c (before ++ record { session = speaker; talks = talks } ∷ after) → IsBetween speaker.at → GoesOn (StandsGrown (Stands mem store) c) old.catalog first points c before spoken after new.shared × IsBetween spoken.at
+      → IsRun old.catalog first points c (before ++ record { session = speaker; talks = talks } ∷ after) → IsBetween speaker.at → (goes : GoesOn (StandsGrown (Stands mem store) c) old.catalog first points c before spoken after new.shared) × IsBetween spoken.at × (SessionDenied (HeardBy c) speaker → SessionDenied (HeardBy goes.common) spoken)
 
   -- the session of this number, which stands behind so many others, has answered the line
   turn_keeps : (old new : RunState) (number at : ℕ) (s : Option Statement) (speaker spoken : Session) (reply : Reply) → number ≡ at + 1 → at < length old.sessions
@@ -100,11 +102,12 @@ module _ (mem : MemEngine → EngineTable → List Entry → Type 0) (store : St
       sym (is ∙ ap (λ xs. get_or xs at speaker) split ∙ ap (λ i. get_or (map (λ (p : Player). p.session) m.before ++ m.one.session ∷ map (λ (p : Player). p.session) m.after) i speaker) (sym place)
       ∙ get_or-append_seam (map (λ (p : Player). p.session) m.before) m.one.session (map (λ (p : Player). p.session) m.after) speaker) in
       let between : Each (λ (p : Player). IsBetween p.session.at) (m.before ++ m.one ∷ m.after) = subst (Each (λ (p : Player). IsBetween p.session.at)) m.is k.between in
-      let goes : GoesOn (StandsGrown (Stands mem store) k.common) old.catalog b.first k.points k.common m.before spoken m.after new.shared × IsBetween spoken.at =
+      let goes : (goes : GoesOn (StandsGrown (Stands mem store) k.common) old.catalog b.first k.points k.common m.before spoken m.after new.shared) × IsBetween spoken.at × (SessionDenied (HeardBy k.common) speaker → SessionDenied (HeardBy goes.common) spoken) =
       goes_on b.first k.points k.common m.before m.one.talks m.after k.stood
       (subst (λ (y : Session). IsRun old.catalog b.first k.points k.common (m.before ++ record { session = y; talks = m.one.talks } ∷ m.after)) who (subst (IsRun old.catalog b.first k.points k.common) m.is k.run))
       (subst (λ (y : Session). IsBetween y.at) who (each_focus (λ (p : Player). IsBetween p.session.at) m.before m.one m.after between)) in
       let spoke : Player = record { session = spoken; talks = goes.0.talks } in
+      let denied : Each (λ (p : Player). SessionDenied (HeardBy k.common) p.session) (m.before ++ m.one ∷ m.after) = subst (Each (λ (p : Player). SessionDenied (HeardBy k.common) p.session)) m.is k.denied in
       let sessions : new.sessions ≡ map (λ (p : Player). p.session) m.before ++ spoken ∷ map (λ (p : Player). p.session) m.after =
       set_to ∙ ap (λ xs. set xs at spoken) split ∙ ap (λ i. set (map (λ (p : Player). p.session) m.before ++ m.one.session ∷ map (λ (p : Player). p.session) m.after) i spoken) (sym place)
       ∙ set-append_seam (map (λ (p : Player). p.session) m.before) m.one.session (map (λ (p : Player). p.session) m.after) spoken in
@@ -120,6 +123,11 @@ module _ (mem : MemEngine → EngineTable → List Entry → Type 0) (store : St
         sessions_are = sessions ∙ sym (map-append (λ (p : Player). p.session) m.before (spoke ∷ m.after));
         run = subst (λ catalog. IsRun catalog b.first (k.points ++ goes.0.more) goes.0.common (m.before ++ spoke ∷ m.after)) (sym same) goes.0.run;
         between = each_middle (λ (p : Player). IsBetween p.session.at) m.before spoke m.after (each_others (λ (p : Player). IsBetween p.session.at) m.before m.one m.after between) goes.1;
+        denied = each_middle (λ (p : Player). SessionDenied (HeardBy goes.0.common) p.session) m.before spoke m.after
+            (each_weaker (λ (p : Player). SessionDenied (HeardBy k.common) p.session) (λ (p : Player). SessionDenied (HeardBy goes.0.common) p.session)
+            (λ p d. denied_by_more (HeardBy k.common) (HeardBy goes.0.common) (heard_on k.common goes.0.common goes.0.stood.1) p.session d) (m.before ++ m.after)
+            (each_others (λ (p : Player). SessionDenied (HeardBy k.common) p.session) m.before m.one m.after denied))
+            (goes.2 (subst (SessionDenied (HeardBy k.common)) who (each_focus (λ (p : Player). SessionDenied (HeardBy k.common) p.session) m.before m.one m.after denied)));
         over = subst HaveSome (sym sessions)
             (some_on (map (λ (p : Player). p.session) m.before) m.one.session spoken (map (λ (p : Player). p.session) m.after) (subst HaveSome split k.over) (subst (λ (y : Session). OverStays y spoken) (sym who) over));
         told = subst (AreTold 1 (lines ++ line_by number (s, reply) ∷ [])) (sym sessions)

@@ -14,7 +14,8 @@ use Rattle.sk_weave.specs.Woven.{Owned}
 use Rattle.sk_weave.specs.PrefixLaws.{prefix_at}
 use Rattle.sk_linked.specs.Reads.{order_of}
 use Rattle.sk_linked.specs.Traces.{run_of, In}
-use Rattle.sk_linked.specs.Causes.{Ring, HasCauses}
+use Rattle.sk_model.specs.declared.record.Said.{Said}
+use Rattle.sk_linked.specs.Causes.{Ring, Caused}
 use Rattle.sk_linked.specs.Kept.{Play, traces_in, records_in, IsPlay}
 use Rattle.sk_mem.specs.declared.engine.MemEngine.{MemEngine}
 use Rattle.sk_store.specs.declared.engine.StoreEngine.{StoreEngine}
@@ -45,7 +46,7 @@ CutsAreAmong b fs points = (front back : List Flush) → fs ≡ front ++ back �
 
 -- A run over these tables that began so, was told these lines with these flushes between them, and was then left, has this to hand out: its
 -- records, journals and points are of one run of sessions, which began with these rows; the list is the one that is woven from its points and
--- its committed writers; they are of one database; each refusal has its cause, one of the registry where it did answer so; each commit has the
+-- its committed writers; they are of one database; each refusal has its cause, one of the registry by the measures of its ring; each commit has the
 -- numbers of the record with its label; the records of each session say what its lines were answered; and behind each flush a disk shows a
 -- prefix of the list.
 pub record HasEnded (catalog : List Table) (b : Beginning) (lines : List RunLine) (fs : List Flush) (x : Ended) : Type 0 where
@@ -59,7 +60,8 @@ pub record HasEnded (catalog : List Table) (b : Beginning) (lines : List RunLine
   pub records_are : x.records ≡ records_in play
   pub order_is : x.order ≡ order_of (run_of (traces_in play))
   pub one : OneDatabase catalog b.rows x.order x.places x.records
-  pub caused : (ring : Ring) → AllByRecursion (HasCauses (traces_in play) ring) x.records
+  pub ring : Ring
+  pub caused : AllByRecursion (λ (r : Record). AllByRecursion (λ (s : Said). Caused (traces_in play) ring r s.reply) r.said) x.records
   pub numbered : AreByRecords x.order x.records
   pub steps : List RunLine
   pub are_steps : AreSteps steps

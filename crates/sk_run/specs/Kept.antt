@@ -15,9 +15,11 @@ use Rattle.sk_store.specs.declared.engine.StoreEngine.{StoreEngine}
 use Rattle.sk_store.specs.Loading.{AreOpeningRows}
 use Rattle.sk_session.specs.EachTalk.{IsBetween}
 use Rattle.sk_session.specs.Common.{Common}
+use Rattle.sk_session.specs.Denied.{SessionDenied}
 use Rattle.sk_shared.specs.Shared.{Stands}
 use Rattle.sk_kept.specs.Sessions.{Player, IsRun}
 use Rattle.sk_recorded.specs.Flushes.{Flush, AllFlush}
+use Rattle.sk_recorded.specs.Growing.{HeardBy}
 use Rattle.sk_run.specs.Told.{RunLine, AreShort, AreTold, AreRefused}
 use Rattle.sk_run.specs.State.{RunState}
 use Rattle.sk_run.specs.Over.{HaveSome}
@@ -34,7 +36,7 @@ pub record Beginning : Type 0 where
 module _ (mem : MemEngine → EngineTable → List Entry → Type 0) (store : StoreEngine → EngineTable → List Entry → Type 0) where
   -- These lines were told, with these flushes between them, and the run has kept all that a run of sessions keeps: what they share stands for
   -- this, the sessions with the calls of their transactions are a run over it which began so, and each is between two lines, of which its
-  -- records say what was told.
+  -- records say what was told; and what they say that the registry refused, it refused in a state that this has come of.
   pub record HasKept (b : Beginning) (lines : List RunLine) (fs : List Flush) (x : RunState) : Type 0 where
     pub tables : IsCatalog x.catalog
     pub opening : AreOpeningRows x.catalog b.rows
@@ -47,6 +49,7 @@ module _ (mem : MemEngine → EngineTable → List Entry → Type 0) (store : St
     pub sessions_are : x.sessions ≡ map (λ (p : Player). p.session) players
     pub run : IsRun x.catalog b.first points common players
     pub between : AllByRecursion (λ (p : Player). IsBetween p.session.at) players
+    pub denied : AllByRecursion (λ (p : Player). SessionDenied (HeardBy common) p.session) players
     pub over : HaveSome x.sessions
     pub told : AreTold 1 lines x.sessions
     pub short : AreShort lines

@@ -6,6 +6,11 @@ ghost use Rattle.std.specs.Option.{option_copied};
 ghost use Rattle.sk_weave.specs.RegistryLaws.{CanStart};
 ghost use Rattle.sk_store.specs.Loading.{AreOpeningRows};
 ghost use Rattle.sk_session.specs.Starting.{fresh, records_now};
+ghost use Rattle.sk_session.specs.Conversing.{Conversed};
+ghost use Rattle.sk_session.specs.Printed.{LinePrints};
+ghost use Rattle.sk_session.specs.Heard.{LineRefuses};
+ghost use Rattle.sk_session.specs.Over.{OverStays};
+ghost use Rattle.sk_shared.specs.Shared.{Answers};
 ghost use Rattle.sk_run.specs.Told.{IsShort, AreRefused};
 ghost use Rattle.sk_run.specs.Kept.{IsKnown, HasKept, KeepsOn, RefusesOn};
 ghost use Rattle.sk_run.specs.Ended.{joined, Settles, HandsOut, Ends};
@@ -20,7 +25,7 @@ use sk_mem::MemEngine;
 use sk_model::{ErrWord, Point, Record, RecordList, Reply, Tables};
 use sk_places::places;
 use sk_rows::{Catalog, NoMemory, Statement};
-use sk_session::{Session, Unanswered, converse, leave_with};
+use sk_session::{Session, Unanswered};
 use sk_shared::{Finished, Shared};
 use sk_store::StoreEngine;
 use std::alloc::Global;
@@ -88,6 +93,25 @@ fn records_of(alloc: Global, sessions: Vec<Session>) -> Result<RecordList, NoMem
     Ok(all)
 }
 
+/// Answers a line of this session over what all share: a statement, or STEP where there is none.
+fn answer_line(
+    alloc: Global,
+    speaker: &mut Session,
+    catalog: &Catalog,
+    shared: &mut Shared,
+    statement: Option<&Statement>,
+) -> Result<Reply, Unanswered>
+    ensures calls { IfOk result (λ said. Conversed (Answers ⟦<MemEngine as Engine>⟧.stands ⟦<StoreEngine as Engine>⟧.stands) catalog.now speaker.old shared.old (option_copied statement.entry) speaker.new shared.new said) }
+    ensures prints { IfOk result (λ said. LinePrints speaker.old (option_copied statement.entry) speaker.new said) }
+    ensures refuses { IfOk result (λ said. LineRefuses catalog.now speaker.old (option_copied statement.entry) speaker.new said) }
+    ensures over { IfOk result (λ said. OverStays speaker.old speaker.new) }
+{
+    match statement {
+        Some(said) => speaker.line(alloc, catalog, shared, said),
+        None => speaker.step(alloc, catalog, shared),
+    }
+}
+
 impl Run {
     /// A run that begins with these rows, one list a table, and with so many sessions. Its registry has so many partitions of so many points each, and the numbers of both engines begin at this selection.
     pub fn new(
@@ -137,7 +161,7 @@ impl Run {
         } = self;
         let at = session as usize - 1;
         let reply = match sessions.get_mut(at) {
-            Some(speaker) => converse(alloc, speaker, &catalog, &mut shared, statement)?,
+            Some(speaker) => answer_line(alloc, speaker, &catalog, &mut shared, statement)?,
             None => return Err(Unanswered),
         };
         let run = Run {
@@ -184,7 +208,7 @@ impl Run {
         } = self;
         let at = session as usize - 1;
         let reply = match sessions.get_mut(at) {
-            Some(speaker) => leave_with(alloc, speaker, &catalog, &mut shared)?,
+            Some(speaker) => speaker.leave_with(alloc, &catalog, &mut shared)?,
             None => return Err(Unanswered),
         };
         let run = Run {

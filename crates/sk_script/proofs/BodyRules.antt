@@ -275,11 +275,11 @@ two_words v w ws [] is = absurd cc
 two_words v w ws (t ∷ []) is = absurd cc
 two_words v w ws (t ∷ c ∷ us) is = (t, c, us, refl, cc, cc, cc)
 
-closed_read : (n : ℕ) (us : List Token) (mark : Token) (end : ℕ) (ws : List Word) (what : Line) → words us ≡ ws → IsSaid n ws what → mark.word ≡ word.Mark mark.semicolon mark.none → said n (us ++ mark ∷ []) end ≡ Ok what
+closed_read : (n : ℕ) (us : List Token) (stop : Token) (end : ℕ) (ws : List Word) (what : Line) → words us ≡ ws → IsSaid n ws what → stop.word ≡ word.Mark mark.semicolon mark.none → said n (us ++ stop ∷ []) end ≡ Ok what
 unfolding closed
-closed_read n us mark end ws what is says at =
-    said_closed n us mark [] end (phrase_open n us ws what is says) (ap goes at)
-    ∙ ap (λ r. alone r []) (phrase_read n us mark.from ws what is says)
+closed_read n us stop end ws what is says at =
+    said_closed n us stop [] end (phrase_open n us ws what is says) (ap goes at)
+    ∙ ap (λ r. alone r []) (phrase_read n us stop.from ws what is says)
 
 command_read : (t : Token) (end : ℕ) (what : Line) → command_of t.word ≡ Some what → body (t ∷ []) end ≡ Ok what
 unfolding body

@@ -34,6 +34,9 @@ pub mod Conversed
 -- the facts of all transactions
 pub mod Changed
 pub mod Wished
+-- what the records say that the registry refused; theory for others
+pub mod Denials
+pub mod Denying
 -- the records of transactions that are over
 pub mod Over
 -- what was printed

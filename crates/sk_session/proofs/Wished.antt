@@ -190,7 +190,7 @@ module _ (catalog : List Table) (live : Live) (c : Committing) (own : Option Rep
   stage_fits (Leave refused Mem end) w = left_mem_fits (live_facts live) c.label c.mem
   stage_fits (Leave refused Store end) w = left_store_fits (live_facts live) c.label c.store
 
-wished_fits : (catalog : List Table) (live : Live) (doing : Job) (talk : Talk) → JobSpeaks catalog live doing talk → OrderlyJob live doing → FitsFacts (live_facts live) (wished live doing)
+pub wished_fits : (catalog : List Table) (live : Live) (doing : Job) (talk : Talk) → JobSpeaks catalog live doing talk → OrderlyJob live doing → FitsFacts (live_facts live) (wished live doing)
 unfolding wish_of
 wished_fits catalog live job.Count talk w o = counter_fits (live_facts live) (first_engine live.kind)
 wished_fits catalog live (job.Open e n) talk w o = open_fits live e n w.knows.0 o

@@ -11,3 +11,4 @@ pub mod Facts
 pub mod Printed
 pub mod Heard
 pub mod Over
+pub mod Denied

@@ -1,6 +1,6 @@
 //! Who answers the calls that a session asks for, and a statement answered with them, or a session left.
 
-ghost use Rattle.std.specs.Prelude.{◌≡◌, None, false, IfOk};
+ghost use Rattle.std.specs.Prelude.{◌≡◌, Some, None, false, IfOk};
 ghost use Rattle.std.specs.Option.{option_copied};
 ghost use Rattle.sk_commit.specs.declared.asking.Wish.{Wish as AnyWish};
 ghost use Rattle.sk_commit.specs.declared.asking.Got.{Got as AnyGot};
@@ -60,7 +60,7 @@ fn carry_on<K: Desk>(
 }
 
 /// Answers a statement, or STEP where there is none: the desk makes each call that the session asks for, until the session replies, or the desk has no answer.
-pub fn converse<K: Desk>(
+fn converse<K: Desk>(
     alloc: Global,
     session: &mut Session,
     catalog: &Catalog,
@@ -68,44 +68,84 @@ pub fn converse<K: Desk>(
     statement: Option<&Statement>,
 ) -> Result<Reply, Unanswered>
     ensures calls { IfOk result (λ said. Conversed K.answers catalog.now session.old desk.old (option_copied statement.entry) session.new desk.new said) }
-
-    // What was printed so far and is printed now is what the records say.
     ensures prints { IfOk result (λ said. LinePrints session.old (option_copied statement.entry) session.new said) }
-
-    // What the table of refusals refuses where the session stands is refused so, nothing else is answered with a word of the table, and the reply leads where it says.
     ensures refuses { IfOk result (λ said. LineRefuses catalog.now session.old (option_copied statement.entry) session.new said) }
-
-    // The records of transactions that are over stay, and perhaps one more is over, the last one.
     ensures over { IfOk result (λ said. OverStays session.old session.new) }
-
-    // A STEP between two transactions adds no record.
     ensures rests { option_copied statement.entry ≡ None → IfOk result (λ said. RestsStill session.old session.new) }
 {
     let begun = session.start(alloc, catalog, statement);
     carry_on(alloc, session, catalog, desk, begun)
 }
 
-/// Leaves the session, with the desk: a transaction that is open is rolled back, and no statement of it.
-pub fn leave_with<K: Desk>(
-    alloc: Global,
-    session: &mut Session,
-    catalog: &Catalog,
-    desk: &mut K,
-) -> Result<Reply, Unanswered>
-    ensures calls { IfOk result (λ said. HasLeft K.answers catalog.now session.old desk.old session.new desk.new said) }
+impl Session {
+    /// Answers a statement: the desk makes each call that the session asks for, until the session replies, or the desk has no answer.
+    pub fn line<K: Desk>(
+        &mut self,
+        alloc: Global,
+        catalog: &Catalog,
+        desk: &mut K,
+        statement: &Statement,
+    ) -> Result<Reply, Unanswered>
+        ensures calls { IfOk result (λ said. Conversed K.answers catalog.now self.old desk.old (Some statement.now) self.new desk.new said) }
 
-    // It stands outside of a transaction then, unless a commit is between two of its steps.
-    ensures stands { IfOk result (λ said. StandsLeft session.old.at session.new.at said) }
+        // What was printed so far and is printed now is what the records say.
+        ensures prints { IfOk result (λ said. LinePrints self.old (Some statement.now) self.new said) }
 
-    // As a STEP, it adds nothing to what the records say.
-    ensures prints { IfOk result (λ said. LinePrints session.old None session.new said) }
+        // What the table of refusals refuses where the session stands is refused so, nothing else is answered with a word of the table, and the reply leads where it says.
+        ensures refuses { IfOk result (λ said. LineRefuses catalog.now self.old (Some statement.now) self.new said) }
 
-    // The records of transactions that are over stay, and perhaps one more is over, the last one.
-    ensures over { IfOk result (λ said. OverStays session.old session.new) }
+        // The records of transactions that are over stay, and perhaps one more is over, the last one.
+        ensures over { IfOk result (λ said. OverStays self.old self.new) }
+    {
+        converse(alloc, self, catalog, desk, Some(statement))
+    }
 
-    // Between two transactions it adds none.
-    ensures rests { IfOk result (λ said. RestsStill session.old session.new) }
-{
-    let begun = session.leave(alloc);
-    carry_on(alloc, session, catalog, desk, begun)
+    /// Answers STEP, the next step of a commit, in the same way.
+    pub fn step<K: Desk>(
+        &mut self,
+        alloc: Global,
+        catalog: &Catalog,
+        desk: &mut K,
+    ) -> Result<Reply, Unanswered>
+        ensures calls { IfOk result (λ said. Conversed K.answers catalog.now self.old desk.old None self.new desk.new said) }
+
+        // It adds nothing to what the records say.
+        ensures prints { IfOk result (λ said. LinePrints self.old None self.new said) }
+
+        // What the table of refusals refuses where the session stands is refused so, nothing else is answered with a word of the table, and the reply leads where it says.
+        ensures refuses { IfOk result (λ said. LineRefuses catalog.now self.old None self.new said) }
+
+        // The records of transactions that are over stay, and perhaps one more is over, the last one.
+        ensures over { IfOk result (λ said. OverStays self.old self.new) }
+
+        // Between two transactions it adds no record.
+        ensures rests { IfOk result (λ said. RestsStill self.old self.new) }
+    {
+        converse(alloc, self, catalog, desk, None)
+    }
+
+    /// Leaves the session, with the desk: a transaction that is open is rolled back, and no statement of it.
+    pub fn leave_with<K: Desk>(
+        &mut self,
+        alloc: Global,
+        catalog: &Catalog,
+        desk: &mut K,
+    ) -> Result<Reply, Unanswered>
+        ensures calls { IfOk result (λ said. HasLeft K.answers catalog.now self.old desk.old self.new desk.new said) }
+
+        // It stands outside of a transaction then, unless a commit is between two of its steps.
+        ensures stands { IfOk result (λ said. StandsLeft self.old.at self.new.at said) }
+
+        // As a STEP, it adds nothing to what the records say.
+        ensures prints { IfOk result (λ said. LinePrints self.old None self.new said) }
+
+        // The records of transactions that are over stay, and perhaps one more is over, the last one.
+        ensures over { IfOk result (λ said. OverStays self.old self.new) }
+
+        // Between two transactions it adds none.
+        ensures rests { IfOk result (λ said. RestsStill self.old self.new) }
+    {
+        let begun = self.leave(alloc);
+        carry_on(alloc, self, catalog, desk, begun)
+    }
 }

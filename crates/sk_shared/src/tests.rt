@@ -7,7 +7,7 @@ use sk_rows::{
     Begun, Catalog, Column, ColumnList, Expr, SetItem, SetList, Sort, Statement, Table, Txt, Value,
     ValueList,
 };
-use sk_session::{Session, converse};
+use sk_session::{Session, Unanswered};
 use std::alloc::Global;
 use std::process::Abort;
 use std::test::Fail;
@@ -119,6 +119,20 @@ fn empty_tables(alloc: Global, catalog: &Catalog) -> Result<Tables, Fail>
     Ok(rows)
 }
 
+// A session says a line, which the desk has the calls of.
+fn answer(
+    alloc: Global,
+    session: &mut Session,
+    catalog: &Catalog,
+    shared: &mut Shared,
+    said: Option<&Statement>,
+) -> Result<Reply, Unanswered> {
+    match said {
+        Some(said) => session.line(alloc, catalog, shared, said),
+        None => session.step(alloc, catalog, shared),
+    }
+}
+
 // Two sessions say these lines, and each is answered so.
 fn play(rt: &impl Abort, alloc: Global, lines: &[(u16, Say, Heard)]) -> Result<Shared, Fail> {
     let mut catalog = Catalog::new(alloc);
@@ -134,9 +148,9 @@ fn play(rt: &impl Abort, alloc: Global, lines: &[(u16, Say, Heard)]) -> Result<S
     for (number, say, want) in lines {
         let said = statement(alloc, *say)?;
         let reply = if *number == 1 {
-            converse(alloc, &mut one, &catalog, &mut shared, said.as_ref())
+            answer(alloc, &mut one, &catalog, &mut shared, said.as_ref())
         } else {
-            converse(alloc, &mut two, &catalog, &mut shared, said.as_ref())
+            answer(alloc, &mut two, &catalog, &mut shared, said.as_ref())
         };
         match reply {
             Ok(reply) => assert_eq!(rt; in_short(&reply), *want, "{number}: {say:?}"),
