@@ -6,6 +6,10 @@ pub mod Lines
 pub mod Beginning
 -- The records of transactions that are over
 pub mod Over
+-- One session that has spoken
+pub mod Spoken
+-- The labels of its records, and the newest of them
+pub mod Labels
 -- A line of one session, and leaving it
 pub mod Going
 -- What the table of refusals refuses
@@ -16,6 +20,10 @@ pub mod Showing
 pub mod Drifting
 -- What a flush finds is a flush behind the others
 pub mod Finding
+-- How far what a flush finds reaches
+pub mod Reaching
+-- It reaches both counters, where all numbers are decided
+pub mod Newest
 -- Sessions that end
 pub mod Settling
 -- The commits of the list have the numbers of their records

@@ -5,7 +5,6 @@ use Rattle.std.proofs.Common.{refl, sym, ap, ◌∙◌, inl, inr, ⊎_elim}
 use Rattle.sk_model.specs.declared.engine.EngineName.{EngineName}
 use Rattle.sk_model.specs.declared.engine.EngineName.TheVariants.{Mem, Store}
 use Rattle.sk_model.specs.declared.call.Entry.{Entry}
-use Rattle.sk_model.specs.declared.commit.Commit.{Commit}
 use Rattle.sk_model.specs.declared.record.Record.{Record}
 use Rattle.sk_linked.specs.Reads.{order_of}
 use Rattle.sk_linked.specs.Joining.{all_transactions}

@@ -5,3 +5,4 @@ pub mod Kept
 pub mod Numbered
 pub mod Ended
 pub mod Flushing
+pub mod Reaching

@@ -14,6 +14,7 @@ ghost use Rattle.sk_run.specs.Flushing.{
   Joins,
   KeepsStill,
 };
+ghost use Rattle.sk_run.specs.Reaching.{IsCut, Reaches, is_past};
 
 use crate::end_fault::EndFault;
 use crate::run::Run;
@@ -47,6 +48,7 @@ fn horizon(shared: &mut Shared, name: EngineName) -> Result<u32, EndFault>
 
 /// The cut that a flush may reach now: what both engines have decided, and no transaction may come between. There is none where the oldest live point is past that.
 fn find_cut(shared: &mut Shared) -> Result<Option<Point>, EndFault>
+    ensures reaches { IfOk result (λ cut. IsCut ⟦<MemEngine as Engine>⟧.stands ⟦<StoreEngine as Engine>⟧.stands shared.old cut) }
     ensures point { IfOk result (λ cut. FindsPoint ⟦<MemEngine as Engine>⟧.stands ⟦<StoreEngine as Engine>⟧.stands shared.old cut shared.new) }
     ensures drifts { Drifts ⟦<MemEngine as Engine>⟧.stands ⟦<StoreEngine as Engine>⟧.stands shared.old shared.new }
 {
@@ -91,7 +93,8 @@ fn sweep(shared: &mut Shared, name: EngineName, cut: Point) -> Option<EngineFaul
 
 /// One number of the cut is past the other's, and neither is below it.
 fn is_past(cut: Point, durable: Point) -> bool
-    ensures { result ≡ true → IsPast cut durable }
+    ensures value { result ≡ is_past cut durable }
+    ensures past { result ≡ true → IsPast cut durable }
 {
     cut.a >= durable.a && cut.b >= durable.b && (cut.a > durable.a || cut.b > durable.b)
 }
@@ -124,6 +127,7 @@ fn joined(
 
 /// What a flush finds past this durable cut.
 fn batch(alloc: Global, shared: &mut Shared, durable: Point) -> Result<Found, EndFault>
+    ensures reaches { IfOk result (λ found. Reaches ⟦<MemEngine as Engine>⟧.stands ⟦<StoreEngine as Engine>⟧.stands shared.old durable found.cut) }
     ensures found { IfOk result (λ found. FindsOn ⟦<MemEngine as Engine>⟧.stands ⟦<StoreEngine as Engine>⟧.stands shared.old durable found shared.new) }
     ensures drifts { Drifts ⟦<MemEngine as Engine>⟧.stands ⟦<StoreEngine as Engine>⟧.stands shared.old shared.new }
 {
@@ -143,8 +147,9 @@ fn batch(alloc: Global, shared: &mut Shared, durable: Point) -> Result<Found, En
 }
 
 impl Run {
-    /// What a flush finds past this durable cut. Where it may not go past it, it finds that cut, and no commits.
+    /// What a flush finds past this durable cut: all up to the cut that the registry gives at the horizons of both engines. Where that is not past the durable one, it finds the durable one, and no commits.
     pub fn find_batch(&mut self, alloc: Global, durable: Point) -> Result<Found, EndFault>
+        ensures reaches { IfOk result (λ found. Reaches ⟦<MemEngine as Engine>⟧.stands ⟦<StoreEngine as Engine>⟧.stands self.old.shared durable found.cut) }
         ensures found { IfOk result (λ found. FindsBatch ⟦<MemEngine as Engine>⟧.stands ⟦<StoreEngine as Engine>⟧.stands self.old durable found self.new) }
         ensures kept { KeepsStill ⟦<MemEngine as Engine>⟧.stands ⟦<StoreEngine as Engine>⟧.stands self.old self.new }
     {

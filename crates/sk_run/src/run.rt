@@ -1,6 +1,6 @@
 //! A run of sessions on one thread.
 
-ghost use Rattle.std.specs.Prelude.{◌≡◌, ◌++◌, [], IfOk, IfSome, None, length, map};
+ghost use Rattle.std.specs.Prelude.{◌≡◌, ◌⊎◌, ◌++◌, [], true, IfOk, IfSome, None, length, map};
 ghost use Rattle.std.specs.List.{range_with_len};
 ghost use Rattle.std.specs.Option.{option_copied};
 ghost use Rattle.sk_weave.specs.RegistryLaws.{CanStart};
@@ -9,12 +9,26 @@ ghost use Rattle.sk_session.specs.Starting.{fresh, records_now};
 ghost use Rattle.sk_session.specs.Conversing.{Conversed};
 ghost use Rattle.sk_session.specs.Printed.{LinePrints};
 ghost use Rattle.sk_session.specs.Heard.{LineRefuses};
-ghost use Rattle.sk_session.specs.Over.{OverStays};
+ghost use Rattle.sk_session.specs.Over.{OverStays, RestsStill};
 ghost use Rattle.sk_shared.specs.Shared.{Answers};
 ghost use Rattle.sk_run.specs.Told.{IsShort, AreRefused};
 ghost use Rattle.sk_run.specs.Kept.{IsKnown, HasKept, KeepsOn, RefusesOn};
 ghost use Rattle.sk_run.specs.Ended.{joined, Settles, HandsOut, Ends};
-ghost use Rattle.sk_run.specs.Over.{IsOver, OverStay, HasAllOver, last_record};
+ghost use Rattle.sk_run.specs.Over.{
+  AllRest,
+  HasAllOver,
+  HasOnlyOver,
+  IsNewest,
+  IsOver,
+  NoneOver,
+  OneMoreBy,
+  OthersStay,
+  OverStay,
+  RestsAt,
+  is_committing,
+  last_record,
+  session_at,
+};
 ghost use Rattle.sk_model.specs.declared.record.Ending.TheVariants as ending;
 
 use crate::end_fault::EndFault;
@@ -93,6 +107,13 @@ fn records_of(alloc: Global, sessions: Vec<Session>) -> Result<RecordList, NoMem
     Ok(all)
 }
 
+/// Whether this was refused since a commit is between two of its steps.
+fn is_committing(reply: &Reply) -> bool
+    ensures { result ≡ is_committing reply.now }
+{
+    matches!(reply, Reply::Refused(ErrWord::Committing))
+}
+
 /// Answers a line of this session over what all share: a statement, or STEP where there is none.
 fn answer_line(
     alloc: Global,
@@ -105,6 +126,7 @@ fn answer_line(
     ensures prints { IfOk result (λ said. LinePrints speaker.old (option_copied statement.entry) speaker.new said) }
     ensures refuses { IfOk result (λ said. LineRefuses catalog.now speaker.old (option_copied statement.entry) speaker.new said) }
     ensures over { IfOk result (λ said. OverStays speaker.old speaker.new) }
+    ensures rests { option_copied statement.entry ≡ None → IfOk result (λ said. RestsStill speaker.old speaker.new) }
 {
     match statement {
         Some(said) => speaker.line(alloc, catalog, shared, said),
@@ -129,6 +151,7 @@ impl Run {
         ensures refused { IfOk result (λ x. AreRefused x.catalog 1 [] x.sessions) }
         ensures tables { IfOk result (λ x. x.catalog ≡ catalog) }
         ensures sessions { IfOk result (λ x. length x.sessions ≡ sessions) }
+        ensures over { IfOk result (λ x. NoneOver x) }
     {
         let shared = Shared::new(alloc, &catalog, rows, partitions, size, start)?;
         let sessions = fresh_sessions(alloc, sessions)?;
@@ -151,6 +174,11 @@ impl Run {
         ensures kept { IfOk result (λ all. KeepsOn ⟦<MemEngine as Engine>⟧.stands ⟦<StoreEngine as Engine>⟧.stands self session (option_copied statement.entry) all.0 all.1) }
         ensures refused { IfOk result (λ all. RefusesOn ⟦<MemEngine as Engine>⟧.stands ⟦<StoreEngine as Engine>⟧.stands self session (option_copied statement.entry) all.0 all.1) }
         ensures over { IfOk result (λ all. OverStay self all.0) }
+        // Where one transaction more is over, it is the session's last.
+        ensures one { IfOk result (λ all. OneMoreBy self session all.0) }
+        ensures others { IfOk result (λ all. OthersStay self session all.0) }
+        // A STEP between two transactions adds no record.
+        ensures rests { option_copied statement.entry ≡ None → IfOk result (λ all. RestsStill (session_at self session) (session_at all.0 session)) }
         ensures tables { IfOk result (λ all. all.0.catalog ≡ self.catalog) }
         ensures sessions { IfOk result (λ all. length all.0.sessions ≡ length self.sessions) }
     {
@@ -185,6 +213,8 @@ impl Run {
         ensures value { option_copied result ≡ last_record self.now session }
         // Where the transaction has committed it is over.
         ensures over { IfSome result (λ r. r.now.ending ≡ ending.Committed → IsOver self.now r.now) }
+        // And no other of the session's is as new.
+        ensures newest { IfSome result (λ r. r.now.ending ≡ ending.Committed → IsNewest self.now session r.now) }
     {
         let at = session as usize - 1;
         match self.sessions.get(at) {
@@ -198,6 +228,12 @@ impl Run {
         requires { IsKnown self session }
         ensures kept { IfOk result (λ all. KeepsOn ⟦<MemEngine as Engine>⟧.stands ⟦<StoreEngine as Engine>⟧.stands self session None all.0 all.1) }
         ensures over { IfOk result (λ all. OverStay self all.0) }
+        // Where one transaction more is over, it is the session's last.
+        ensures one { IfOk result (λ all. OneMoreBy self session all.0) }
+        ensures others { IfOk result (λ all. OthersStay self session all.0) }
+        // Between two transactions it adds no record, and behind it there is none, unless it was refused.
+        ensures rests { IfOk result (λ all. RestsStill (session_at self session) (session_at all.0 session)) }
+        ensures left { IfOk result (λ all. RestsAt all.0 session ⊎ (is_committing all.1 ≡ true)) }
         ensures tables { IfOk result (λ all. all.0.catalog ≡ self.catalog) }
         ensures sessions { IfOk result (λ all. length all.0.sessions ≡ length self.sessions) }
     {
@@ -224,13 +260,18 @@ impl Run {
         requires { IsKnown self session }
         ensures kept { IfOk result (λ run. Settles ⟦<MemEngine as Engine>⟧.stands ⟦<StoreEngine as Engine>⟧.stands self run) }
         ensures over { IfOk result (λ run. OverStay self run) }
+        // Where one transaction more is over, it is the session's last.
+        ensures one { IfOk result (λ run. OneMoreBy self session run) }
+        ensures others { IfOk result (λ run. OthersStay self session run) }
+        // It has no transaction then.
+        ensures rests { IfOk result (λ run. RestsAt run session) }
         ensures tables { IfOk result (λ run. run.catalog ≡ self.catalog) }
         ensures sessions { IfOk result (λ run. length run.sessions ≡ length self.sessions) }
     {
         let mut run = self;
         for _ in 0..=MOST_STEPS {
             let (left, reply) = run.leave(alloc, session)?;
-            if !matches!(reply, Reply::Refused(ErrWord::Committing)) {
+            if !is_committing(&reply) {
                 return Ok(left);
             }
             let (stepped, _) = left.line(alloc, session, None)?;
@@ -268,6 +309,8 @@ impl Run {
     pub fn hand_out(self, alloc: Global) -> Result<Ended, EndFault>
         ensures hands_out { IfOk result (λ x. HandsOut ⟦<MemEngine as Engine>⟧.stands ⟦<StoreEngine as Engine>⟧.stands self x) }
         ensures over { IfOk result (λ x. HasAllOver self x.records) }
+        // Where no session has a transaction, there are no others.
+        ensures only { AllRest self → IfOk result (λ x. HasOnlyOver self x.records) }
     {
         let Run {
             sessions,

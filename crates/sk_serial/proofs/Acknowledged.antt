@@ -1,5 +1,5 @@
 -- Who was told that a commit is durable is a transaction that committed, and what it wrote stands in the list up to the receipt's cut.
-use Rattle.std.specs.Prelude.{◌≡◌, ◌≤◌, ℕ, suc, ◌+◌, Bool, true, false, cond, ◌||◌, ◌&&◌, nat_le, max, List, [], ◌∷◌, ◌++◌, Option, Some, None, take}
+use Rattle.std.specs.Prelude.{◌≡◌, ◌≤◌, ℕ, suc, ◌+◌, Bool, true, false, cond, ◌||◌, ◌&&◌, max, List, [], ◌∷◌, Option, Some, None, take}
 use Rattle.std.specs.List.{list_any}
 use Rattle.std.proofs.Common.{refl, sym, ap, subst, ◌∙◌, inl, inr, ⊎_elim, arith}
 use Rattle.std.proofs.Math.Nat.{le-max_left, le-max_right}
@@ -15,17 +15,16 @@ use Rattle.sk_model.specs.Places.{is_wanted, place, upto}
 use Rattle.sk_model.specs.Records.{AtMost, same_label}
 use Rattle.sk_model.specs.Stamped.{number_in}
 use Rattle.sk_model.proofs.Labels.{same_is}
-use Rattle.sk_model.proofs.Lists.{Each, each_append}
-use Rattle.sk_weave.specs.PrefixLaws.{prefix_at}
+use Rattle.sk_model.proofs.Lists.{Each}
 use Rattle.sk_linked.specs.Traces.{In}
-use Rattle.sk_linked.proofs.Members.{each_in, in_each}
+use Rattle.sk_linked.proofs.Members.{each_in}
 use Rattle.sk_cut.specs.Acked.{Acked, answers, IsUpTo}
 use Rattle.sk_cut.specs.Receipts.{covers, is_reached}
 use Rattle.sk_run.specs.Numbered.{IsBy, AreByRecords}
-use Rattle.sk_run.specs.Over.{IsOver, OverStay, HasAllOver}
+use Rattle.sk_run.specs.Over.{IsOver, HasAllOver}
 use Rattle.sk_run.specs.State.{RunState}
-use Rattle.sk_serial.specs.Acknowledged.{IsCovered, Stands, IsReceipt, Acknowledged}
-use Rattle.sk_serial.specs.Waiting.{needed, need_of, IsNeedOf, AreOver, AreNeedsOf, WaitsOn}
+use Rattle.sk_serial.specs.Acknowledged.{IsCovered, IsReceipt, Acknowledged}
+use Rattle.sk_serial.specs.Waiting.{needed, need_of, IsNeedOf, AreOver, AreNeedsOf}
 
 -- ---- who waits
 
@@ -35,13 +34,6 @@ IsOf x n = (r : Record) × IsOver x r × IsNeedOf n r
 each_weaker : {X : Type 0} (P Q : X → Type 0) (xs : List X) → ((x : X) → P x → Q x) → Each P xs → Each Q xs
 each_weaker P Q [] f h = tt
 each_weaker P Q (x ∷ xs) f h = (f x h.0, each_weaker P Q xs f h.1)
-
--- the run went on, and nobody more was queued
-pub waits_same : (old new : RunState) (queued new_queued : List Need) → OverStay old new → new_queued ≡ queued → WaitsOn old queued new new_queued
-waits_same old new queued new_queued stay same h = subst (AreOver new) (sym same) (each_weaker (IsOf old) (IsOf new) queued (λ n (r, over, is). (r, stay r over, is)) h)
-
-pub waits_on : (old mid new : RunState) (queued between last : List Need) → WaitsOn old queued mid between → WaitsOn mid between new last → WaitsOn old queued new last
-waits_on old mid new queued between last one two h = two (one h)
 
 -- at the end each is of a record that is handed out
 handed_out : (x : RunState) (records : List Record) (queued : List Need) → HasAllOver x records → AreOver x queued → AreNeedsOf records queued

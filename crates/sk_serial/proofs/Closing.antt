@@ -23,14 +23,24 @@ use Rattle.sk_run.proofs.Refusing.{obey}
 use Rattle.sk_serial.specs.Flushed.{IsPast}
 use Rattle.sk_serial.specs.Saving.{Saved, saved_in, saved_by, saved_last}
 use Rattle.sk_serial.specs.Showing.{IsStill, HasSaved, SavesOn}
-use Rattle.sk_serial.specs.Played.{told_in, last_text, Now, SettlesOn, Closes, EndsSo}
-use Rattle.sk_run.specs.Over.{HasAllOver}
+use Rattle.sk_serial.specs.Played.{told_in, last_text, IsLast, WasMade, Now, SettlesOn, Closes, EndsSo}
+use Rattle.sk_model.proofs.Lists.{Each}
+use Rattle.sk_session.specs.declared.session.Session.{Session}
+use Rattle.sk_session.specs.Over.{Rests}
+use Rattle.sk_run.specs.Over.{AllRest, HasAllOver, HasOnlyOver}
 use Rattle.sk_run.proofs.Over.{stay_same}
 use Rattle.sk_cut.specs.Acked.{Acked}
-use Rattle.sk_serial.specs.Waiting.{WaitsOn}
+use Rattle.sk_serial.specs.Waiting.{KeepsQueue, NoneCovered, WaitsOn}
 use Rattle.sk_serial.specs.Acknowledged.{Acknowledged}
-use Rattle.sk_serial.proofs.Acknowledged.{waits_same, waits_on, acknowledged_at}
+use Rattle.sk_serial.proofs.Acknowledged.{acknowledged_at}
+use Rattle.sk_serial.proofs.Waiting.{all_told, waits_same, waits_on}
 use Rattle.sk_serial.proofs.Showing.{shows_still}
+
+-- where the last flush was made the run had not ended before
+goes_on : (stopped : Bool) (flushed : Option FlushNote) → IsLast stopped flushed → WasMade flushed → stopped ≡ false
+goes_on false flushed last made = refl
+goes_on true None last made = absurd made
+goes_on true (Some note) last made = absurd last
 
 module _ {D : Type 0} (disk : Disk D) (mem : MemEngine → EngineTable → List Entry → Type 0) (store : StoreEngine → EngineTable → List Entry → Type 0) where
   -- one behind the other
@@ -59,6 +69,8 @@ module _ {D : Type 0} (disk : Disk D) (mem : MemEngine → EngineTable → List 
     is_last = tt;
     settles = settles_nothing old.run old.store;
     waits = λ h. h;
+    rest = λ e. absurd (cc);
+    told = λ made. absurd made;
     catalog = refl;
     full = tt;
     printed = sym (append-nil old.text);
@@ -67,15 +79,18 @@ module _ {D : Type 0} (disk : Disk D) (mem : MemEngine → EngineTable → List 
   }
 
   -- the sessions ended, and a flush was made
-  pub closes_all : (old new : Now D) (settled : RunState) (between : Kept D) (note : FlushNote) (ended : Bool) → ended ≡ false → Settles mem store old.run settled → IsStill old.store between → WaitsOn old.run old.store.queued settled between.queued → settled.catalog ≡ old.run.catalog → between.logmax ≡ old.store.logmax
-      → KeepsStill mem store settled new.run → SavesOn disk mem store settled between new.run new.store → new.store.queued ≡ between.queued → IsPast between.logmax note.refused
+  pub closes_all : (old new : Now D) (settled : RunState) (between : Kept D) (note : FlushNote) (ended : Bool) → ended ≡ false → Settles mem store old.run settled → IsStill old.store between → WaitsOn old.run old.store settled between → AllRest settled → settled.catalog ≡ old.run.catalog → between.logmax ≡ old.store.logmax
+      → KeepsStill mem store settled new.run → SavesOn disk mem store settled between new.run new.store → KeepsQueue between new.store → (note.refused ≡ None → NoneCovered new.store) → IsPast between.logmax note.refused
       → new.text ≡ old.text ++ last_text (Some note) → saved_in new.store ≡ saved_by note (saved_in old.store) → new.last ≡ old.last → Closes disk mem store old ended new
-  closes_all old new settled between note true is settles same waits tables limit still saves queued full printed saved last = absurd (cc)
-  closes_all old new settled between note false is settles same waits tables limit still saves queued full printed saved last = record {
+  closes_all old new settled between note true is settles same waits rest tables limit still saves queue told full printed saved last = absurd (cc)
+  closes_all old new settled between note false is settles same waits rest tables limit still saves queue told full printed saved last = record {
     flushed = Some note;
     is_last = tt;
     settles = settles_flushed old.run settled new.run old.store between new.store (settles_still old.run settled old.store between settles same) saves;
-    waits = waits_on old.run settled new.run old.store.queued between.queued new.store.queued waits (waits_same settled new.run between.queued new.store.queued (stay_same settled new.run still.sessions) queued);
+    waits = waits_on old.run settled new.run old.store between new.store waits
+        (waits_same settled new.run between new.store (stay_same settled new.run still.sessions) (stay_same new.run settled (sym still.sessions)) queue);
+    rest = λ _. subst (Each (λ (s : Session). Rests s.at)) (sym still.sessions) rest;
+    told = told;
     catalog = still.catalog ∙ tables;
     full = subst (λ (n : ℕ). IsPast n note.refused) limit full;
     printed = printed;
@@ -83,9 +98,9 @@ module _ {D : Type 0} (disk : Disk D) (mem : MemEngine → EngineTable → List 
     replied = last;
   }
 
-  pub ends_so : (old new : Now D) (stopped : Bool) (x : Ended) (text : List ℕ) (saved : Saved) (last : Option Reply) (device : D) (broken : Bool) → Closes disk mem store old stopped new → HandsOut mem store new.run x → HasAllOver new.run x.records
+  pub ends_so : (old new : Now D) (stopped : Bool) (x : Ended) (text : List ℕ) (saved : Saved) (last : Option Reply) (device : D) (broken : Bool) → Closes disk mem store old stopped new → HandsOut mem store new.run x → HasAllOver new.run x.records → (AllRest new.run → HasOnlyOver new.run x.records)
       → Acked new.store.queued new.store.receipts new.store.cut → text ≡ new.text → saved ≡ saved_in new.store → last ≡ new.last → device ≡ new.store.disk → broken ≡ new.store.broken → EndsSo disk mem store old stopped x text saved last device broken
-  ends_so old new stopped x text saved last device broken closes hands has acked printed is_saved replied same whole catalog b begun came h =
+  ends_so old new stopped x text saved last device broken closes hands has only acked printed is_saved replied same whole catalog b begun came h =
       let t : (steps : List RunLine) × AreSteps steps × HasSaved disk mem store b begun (told_in came ++ steps) new.run new.store = closes.settles b begun (told_in came) h.saved in
       let fs : List Flush = t.2.flushes ++ t.2.tried in
       let ended : HasEnded catalog b (told_in came) fs x = subst (λ (c : List Table). HasEnded c b (told_in came) fs x) (closes.catalog ∙ h.tables) (hands b (told_in came) t.0 fs t.1 t.2.has_kept) in (
@@ -100,6 +115,7 @@ module _ {D : Type 0} (disk : Disk D) (mem : MemEngine → EngineTable → List 
           printed = printed ∙ closes.printed ∙ ap (λ (xs : List ℕ). xs ++ last_text closes.flushed) h.printed;
           is_saved = is_saved ∙ closes.is_saved ∙ ap (saved_last closes.flushed) h.is_saved;
           replied = replied ∙ closes.replied ∙ h.replied;
+          all_told = λ made. all_told new.run x.records new.store saved is_saved (only (closes.rest (goes_on stopped closes.flushed closes.is_last made))) (closes.waits h.waits) (closes.told made);
         },
         record {
           flushes = t.2.flushes;
@@ -109,5 +125,5 @@ module _ {D : Type 0} (disk : Disk D) (mem : MemEngine → EngineTable → List 
           cuts = ended.cuts;
         },
         subst (λ (s : Saved). Acknowledged x.records x.order s.receipts s.cut) (sym is_saved)
-            (acknowledged_at new.run x.records x.order new.store.queued new.store.receipts new.store.cut has ended.numbered (closes.waits h.waits) acked),
+            (acknowledged_at new.run x.records x.order new.store.queued new.store.receipts new.store.cut has ended.numbered (closes.waits h.waits).are acked),
       )

@@ -1,5 +1,5 @@
 -- A flush that was refused for the length of a log.
-use Rattle.std.specs.Prelude.{◌≡◌, ℕ, ◌<◌, ◌+◌, Bool, true, false, ◌&&◌, nat_lt, List, length, Option, Some, None, if◌then◌else◌}
+use Rattle.std.specs.Prelude.{◌≡◌, ℕ, ◌<◌, ◌+◌, Bool, true, false, ◌&&◌, nat_lt, List, length, Some, None, if◌then◌else◌}
 use Rattle.std.proofs.Common.{refl, subst}
 use Rattle.std.proofs.lemmas.Bool.{and_parts, ltb-true}
 use Rattle.std.proofs.lemmas.Option.{same_Some}
@@ -7,7 +7,6 @@ use Rattle.sk_model.specs.declared.receipt.FlushFault.{FlushFault}
 use Rattle.sk_model.specs.declared.receipt.FlushFault.TheVariants as fault
 use Rattle.sk_log.specs.declared.ends.Ends.{Ends}
 use Rattle.sk_cut.specs.Batches.{full_length, Refuses}
-use Rattle.sk_durable.specs.declared.refused.Refused.{Refused}
 use Rattle.sk_durable.specs.declared.refused.Refused.TheVariants as refused
 use Rattle.sk_serial.specs.Flushed.{IsPast}
 

@@ -2,7 +2,8 @@
 pub mod Came
 pub mod Plays
 pub mod Closing
--- who was told
+-- who waits, and who was told
+pub mod Waiting
 pub mod Acknowledged
 -- the store
 pub mod Showing

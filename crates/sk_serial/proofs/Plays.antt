@@ -18,6 +18,7 @@ use Rattle.sk_durable.specs.Kept.{Kept}
 use Rattle.sk_recover.specs.declared.opening.Opened.{Opened}
 use Rattle.sk_run.specs.Kept.{Beginning, HasKept, KeepsOn, RefusesOn}
 use Rattle.sk_run.specs.Flushing.{KeepsStill}
+use Rattle.sk_run.specs.Over.{NoneOver}
 use Rattle.sk_script.specs.declared.script.Line.TheVariants as line
 use Rattle.sk_script.specs.declared.script.ScriptLine.{ScriptLine}
 use Rattle.sk_script.specs.Limits.{most_sessions}
@@ -26,11 +27,11 @@ use Rattle.sk_serial.specs.Flushed.{IsPast}
 use Rattle.sk_serial.specs.Saving.{saved_in, saved_first, saved_by}
 use Rattle.sk_serial.specs.Showing.{IsStill, HasSaved, SavesOn}
 use Rattle.sk_serial.specs.Stored.{beginning}
-use Rattle.sk_serial.specs.Waiting.{AreOver, WaitsOn}
+use Rattle.sk_serial.specs.Waiting.{KeepsQueue, WaitsOn}
 use Rattle.sk_run.proofs.Over.{stay_same}
-use Rattle.sk_serial.proofs.Acknowledged.{waits_same}
+use Rattle.sk_serial.proofs.Waiting.{waits_none, waits_same}
 use Rattle.sk_serial.proofs.Showing.{shows_none, shows_still}
-use Rattle.sk_serial.specs.Played.{Came, Answered, Flushed, IsOf, AreOf, HasBroken, IsCutOff, StopsAt, line_of, told_in, Now, now, HasPlayed, PlaysOn, PlaysLine, PlaysSaid, PlaysFlush, PlaysNext, PlaysAll}
+use Rattle.sk_serial.specs.Played.{Came, Answered, Flushed, IsOf, AreOf, HasBroken, StopsAt, line_of, told_in, Now, now, HasPlayed, PlaysOn, PlaysLine, PlaysSaid, PlaysFlush, PlaysNext}
 use Rattle.sk_serial.proofs.Came.{told_more, text_more, reply_more, saved_more, of_more, broken_more, full_more}
 
 -- what a run was told by a line
@@ -56,10 +57,10 @@ cut_more true came c rest broken = inr (broken_more came (c ∷ []) (broken refl
 module _ {D : Type 0} (disk : Disk D) (mem : MemEngine → EngineTable → List Entry → Type 0) (store : StoreEngine → EngineTable → List Entry → Type 0) where
   -- before the first line of a run over an opened store
   pub plays_none : (opened : Opened) (device : D) (run : RunState) (text : List ℕ) (kept : Kept D) → HasKept mem store (beginning opened) [] [] run → AreRefused run.catalog 1 [] run.sessions → run.catalog ≡ opened.catalog
-      → length run.sessions ≡ most_sessions → text ≡ [] → kept.disk ≡ device → kept.cut ≡ opened.cut → kept.receipts ≡ [] → kept.queued ≡ [] → HasPlayed disk mem store opened.catalog (beginning opened) device [] (now run text kept None)
-  plays_none opened device run text kept has refused tables sessions printed same cut told none = record {
+      → length run.sessions ≡ most_sessions → text ≡ [] → kept.disk ≡ device → kept.cut ≡ opened.cut → kept.receipts ≡ [] → kept.queued ≡ [] → NoneOver run → HasPlayed disk mem store opened.catalog (beginning opened) device [] (now run text kept None)
+  plays_none opened device run text kept has refused tables sessions printed same cut told none over = record {
     saved = record { flushes = []; tried = []; has_kept = has; shows = rw (same, cut) (shows_none disk opened.cut device kept.broken) };
-    waits = subst (AreOver run) (sym none) tt;
+    waits = waits_none run kept over none;
     tables = tables;
     sessions = sessions;
     refused = subst (λ (c : List Table). AreRefused c 1 [] run.sessions) tables refused;
@@ -82,7 +83,7 @@ module _ {D : Type 0} (disk : Disk D) (mem : MemEngine → EngineTable → List 
   }
 
   pub plays_said : (old new : Now D) (session : ℕ) (s : Option Statement) (reply : Reply) → KeepsOn mem store old.run session s new.run reply → RefusesOn mem store old.run session s new.run reply
-      → new.run.catalog ≡ old.run.catalog → length new.run.sessions ≡ length old.run.sessions → new.text ≡ old.text ++ reply_lines session reply → IsStill old.store new.store → saved_in new.store ≡ saved_in old.store → new.store.logmax ≡ old.store.logmax → WaitsOn old.run old.store.queued new.run new.store.queued → new.last ≡ Some reply
+      → new.run.catalog ≡ old.run.catalog → length new.run.sessions ≡ length old.run.sessions → new.text ≡ old.text ++ reply_lines session reply → IsStill old.store new.store → saved_in new.store ≡ saved_in old.store → new.store.logmax ≡ old.store.logmax → (length old.run.sessions ≡ most_sessions → WaitsOn old.run old.store new.run new.store) → new.last ≡ Some reply
       → PlaysSaid disk mem store old session s new
   plays_said old new session s reply keeps refuses tables sessions printed still saved limit waits last = (
     reply,
@@ -90,7 +91,7 @@ module _ {D : Type 0} (disk : Disk D) (mem : MemEngine → EngineTable → List 
         let told : told_in (came ++ Answered (told_by session s reply) ∷ []) ≡ told_in came ++ told_by session s reply ∷ [] = told_more came (Answered (told_by session s reply) ∷ []) in
         record {
           saved = subst (λ (ls : List RunLine). HasSaved disk mem store b begun ls new.run new.store) (sym told) (saves_line old.run new.run old.store new.store session s reply keeps still b begun (told_in came) h.saved);
-          waits = waits h.waits;
+          waits = waits h.sessions h.waits;
           tables = tables ∙ h.tables;
           sessions = sessions ∙ h.sessions;
           refused = subst (λ (ls : List RunLine). AreRefused catalog 1 ls new.run.sessions) (sym told)
@@ -103,13 +104,13 @@ module _ {D : Type 0} (disk : Disk D) (mem : MemEngine → EngineTable → List 
         },
   )
 
-  pub plays_flush : (old new : Now D) (note : FlushNote) → KeepsStill mem store old.run new.run → SavesOn disk mem store old.run old.store new.run new.store → new.text ≡ old.text ++ flush_text note → saved_in new.store ≡ saved_by note (saved_in old.store) → new.store.logmax ≡ old.store.logmax → IsPast old.store.logmax note.refused → new.store.queued ≡ old.store.queued → new.last ≡ old.last
+  pub plays_flush : (old new : Now D) (note : FlushNote) → KeepsStill mem store old.run new.run → SavesOn disk mem store old.run old.store new.run new.store → new.text ≡ old.text ++ flush_text note → saved_in new.store ≡ saved_by note (saved_in old.store) → new.store.logmax ≡ old.store.logmax → IsPast old.store.logmax note.refused → KeepsQueue old.store new.store → new.last ≡ old.last
       → PlaysOn disk mem store old (Flushed note ∷ []) new
-  plays_flush old new note still saves printed saved limit full queued last catalog b begun came h =
+  plays_flush old new note still saves printed saved limit full queue last catalog b begun came h =
       let told : told_in (came ++ Flushed note ∷ []) ≡ told_in came = told_more came (Flushed note ∷ []) ∙ append-nil (told_in came) in
       record {
         saved = subst (λ (ls : List RunLine). HasSaved disk mem store b begun ls new.run new.store) (sym told) (saves b begun (told_in came) h.saved);
-        waits = waits_same old.run new.run old.store.queued new.store.queued (stay_same old.run new.run still.sessions) queued h.waits;
+        waits = waits_same old.run new.run old.store new.store (stay_same old.run new.run still.sessions) (stay_same new.run old.run (sym still.sessions)) queue h.waits;
         tables = still.catalog ∙ h.tables;
         sessions = ap length still.sessions ∙ h.sessions;
         refused = subst (λ (ls : List RunLine). AreRefused catalog 1 ls new.run.sessions) (sym told) (subst (λ (ss : List Session). AreRefused catalog 1 (told_in came) ss) (sym still.sessions) h.refused);

@@ -1,5 +1,5 @@
 -- Sums of 64 bits.
-use Rattle.std.proofs.Common.{◌≡◌, ◌^◌, Bool, true, false, List, [], ◌∷◌, Option, Some, None, SomeIff, ℤ, ◌+ℤ◌, pos, negsuc, FitsSigned, w64, refl}
+use Rattle.std.proofs.Common.{◌≡◌, ◌^◌, true, List, [], ◌∷◌, Option, Some, None, SomeIff, ℤ, ◌+ℤ◌, pos, negsuc, FitsSigned, w64, refl}
 use Rattle.std.proofs.lemmas.Bool.{ltb-true, lt-ltb, false_from_ne_true}
 use Rattle.sk_rows.specs.declared.value.Value.{Value}
 use Rattle.sk_rows.specs.Evaluation.{fits_64}

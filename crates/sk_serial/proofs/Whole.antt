@@ -21,9 +21,9 @@ use Rattle.sk_serial.specs.Lasting.{Lasts}
 use Rattle.sk_serial.specs.Played.{tables_in, Now, HasEnding, HasPlayed, PlaysAll, EndsSo}
 use Rattle.sk_serial.specs.Running.{IsPlayed, HasText, HasHalted, IsHalted, IsScript, WhyNoScript, WhyHalted, saved_of, transfers_in}
 use Rattle.sk_serial.specs.Saving.{Grows, Saves, IsKept}
-use Rattle.sk_serial.specs.Stored.{start_of, beginning, StartsFrom, HasNotBegun, WhyNone}
+use Rattle.sk_serial.specs.Stored.{start_of, beginning, StartsFrom, WhyNone}
 use Rattle.sk_serial.proofs.Prefixes.{shows_prefixes, shows_last}
-use Rattle.sk_serial.proofs.Lasts.{lasts_opened, lasts_grown, lasts_same}
+use Rattle.sk_serial.proofs.Lasts.{lasts_grown, lasts_same}
 use Rattle.sk_serial.proofs.Saves.{grows_then, rose_later, rose_before}
 
 -- what one fact gives of an answer, and of a refusal

@@ -1,5 +1,5 @@
 -- Who was told that a commit is durable.
-use Rattle.std.specs.Prelude.{◌≡◌, List}
+use Rattle.std.specs.Prelude.{◌≡◌, List, true}
 use Rattle.std.specs.List.{AllByRecursion}
 use Rattle.sk_model.specs.declared.commit.Commit.{Commit}
 use Rattle.sk_model.specs.declared.point.Point.{Point}
@@ -10,6 +10,9 @@ use Rattle.sk_model.specs.Records.{AtMost}
 use Rattle.sk_weave.specs.PrefixLaws.{prefix_at}
 use Rattle.sk_linked.specs.Traces.{In}
 use Rattle.sk_cut.specs.Acked.{AreOnce, IsUpTo, told}
+use Rattle.sk_cut.specs.Receipts.{covers}
+use Rattle.sk_serial.specs.Saving.{Saved}
+use Rattle.sk_serial.specs.Waiting.{need_of}
 
 -- neither a snapshot nor a number of the transaction is past the cut
 pub record IsCovered (r : Record) (cut : Point) : Type 0 where
@@ -37,3 +40,7 @@ pub record Acknowledged (records : List Record) (order : List Commit) (receipts 
   pub each : AllByRecursion (IsReceipt records order) receipts
   pub within : AllByRecursion (λ r. IsUpTo cut r.cut) receipts
   pub once : AreOnce (told receipts)
+
+-- each of these records that has committed and that the durable cut covers has its receipt
+abbrev pub AllTold : List Record → Saved → Type 0
+AllTold records saved = (r : Record) → In r records → r.ending ≡ ending.Committed → covers saved.cut (need_of r) ≡ true → In r.label (told saved.receipts)

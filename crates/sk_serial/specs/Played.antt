@@ -15,6 +15,7 @@ use Rattle.sk_recorded.specs.Flushes.{Flush}
 use Rattle.sk_run.specs.State.{RunState}
 use Rattle.sk_run.specs.Told.{RunLine, AreRefused, ObeyTable}
 use Rattle.sk_run.specs.Kept.{Beginning}
+use Rattle.sk_run.specs.Over.{AllRest}
 use Rattle.sk_run.specs.Ended.{AreSteps, HasEnded}
 use Rattle.sk_run.specs.declared.ended.Ended.{Ended}
 use Rattle.sk_script.specs.declared.script.Line.{Line}
@@ -26,8 +27,8 @@ use Rattle.sk_text.specs.Text.{reply_lines, flush_text, report}
 use Rattle.sk_serial.specs.Flushed.{is_broken, IsPast}
 use Rattle.sk_serial.specs.Saving.{Saved, saved_in, saved_first, saved_by, saved_last}
 use Rattle.sk_serial.specs.Showing.{HasSaved, IsOnDisk}
-use Rattle.sk_serial.specs.Waiting.{AreOver, WaitsOn}
-use Rattle.sk_serial.specs.Acknowledged.{Acknowledged}
+use Rattle.sk_serial.specs.Waiting.{IsWaiting, NoneCovered, WaitsOn}
+use Rattle.sk_serial.specs.Acknowledged.{Acknowledged, AllTold}
 use Rattle.sk_serial.specs.Summary.{summary}
 
 -- the tables of a script
@@ -128,9 +129,15 @@ IsLast false (Some note) = Unit {0}
 IsLast true None = Unit {0}
 IsLast true (Some note) = ⊥
 
+-- the last flush was made, and was not refused
+abbrev pub WasMade : Option FlushNote → Type 0
+WasMade None = ⊥
+WasMade (Some note) = note.refused ≡ None
+
 -- A run over these tables that began so, whose logs may be so long, and of which this came, has ended so: what it hands out, the text of its lines,
 -- what is saved of it, and its last reply. What the table of refusals refuses each of its sessions was answered so, and a flush was refused for the
--- length of a log only where that is past the greatest.
+-- length of a log only where that is past the greatest. Where the last flush was made, everybody who committed and whom the durable cut covers was
+-- told.
 pub record HasEnding (catalog : List Table) (b : Beginning) (logmax : ℕ) (came : List Came) (stopped : Bool) (ended : Ended) (text : List ℕ) (saved : Saved) (last : Option Reply) : Type 0 where
   pub flushes : List Flush
   pub ends : HasEnded catalog b (told_in came) flushes ended
@@ -142,6 +149,7 @@ pub record HasEnding (catalog : List Table) (b : Beginning) (logmax : ℕ) (came
   pub printed : text ≡ lines_text came ++ last_text flushed
   pub is_saved : saved ≡ saved_last flushed (saved_after (saved_first b.first) came)
   pub replied : last ≡ reply_after None came
+  pub all_told : WasMade flushed → AllTold ended.records saved
 
 -- what is printed of it: its lines and the report, or of a script that was generated of so many transfers the line that sums it up
 abbrev pub printed_text : Option ℕ → List ℕ → Ended → Saved → Option Reply → List ℕ
@@ -177,7 +185,7 @@ module _ {D : Type 0} (disk : Disk D) (mem : MemEngine → EngineTable → List 
   -- text of what came
   pub record HasPlayed (catalog : List Table) (b : Beginning) (begun : D) (came : List Came) (n : Now D) : Type 0 where
     pub saved : HasSaved disk mem store b begun (told_in came) n.run n.store
-    pub waits : AreOver n.run n.store.queued
+    pub waits : IsWaiting n.run n.store
     pub tables : n.run.catalog ≡ catalog
     pub sessions : length n.run.sessions ≡ most_sessions
     pub refused : AreRefused catalog 1 (told_in came) n.run.sessions
@@ -229,7 +237,9 @@ module _ {D : Type 0} (disk : Disk D) (mem : MemEngine → EngineTable → List 
     pub flushed : Option FlushNote
     pub is_last : IsLast ended flushed
     pub settles : SettlesOn old.run old.store new.run new.store
-    pub waits : WaitsOn old.run old.store.queued new.run new.store.queued
+    pub waits : WaitsOn old.run old.store new.run new.store
+    pub rest : ended ≡ false → AllRest new.run
+    pub told : WasMade flushed → NoneCovered new.store
     pub catalog : new.run.catalog ≡ old.run.catalog
     pub full : IfSome flushed (λ (note : FlushNote). IsPast old.store.logmax note.refused)
     pub printed : new.text ≡ old.text ++ last_text flushed

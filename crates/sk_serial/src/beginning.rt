@@ -6,6 +6,7 @@ ghost use Rattle.sk_store.specs.Loading.{AreOpeningRows};
 ghost use Rattle.sk_script.specs.Limits.{most_sessions};
 ghost use Rattle.sk_script.specs.Options.{AreInRange};
 ghost use Rattle.sk_run.specs.Kept.{HasKept};
+ghost use Rattle.sk_run.specs.Over.{NoneOver};
 ghost use Rattle.sk_run.specs.Told.{AreRefused};
 ghost use Rattle.sk_serial.specs.Played as spec;
 ghost use Rattle.sk_serial.specs.Stored.{IsStart, MayBegin, beginning};
@@ -43,6 +44,7 @@ fn run_over(
     ensures refused { IfOk result (λ x. AreRefused x.catalog 1 [] x.sessions) }
     ensures tables { IfOk result (λ x. x.catalog ≡ catalog.now) }
     ensures sessions { IfOk result (λ x. length x.sessions ≡ most_sessions) }
+    ensures over { IfOk result (λ x. NoneOver x) }
 {
     let tables = catalog.copy(alloc)?;
     Run::new(

@@ -4,6 +4,7 @@ ghost use Rattle.std.specs.Prelude.{◌≡◌, ◌<◌, ◌≤◌, length, true,
 ghost use Rattle.std.specs.String.{string_bytes};
 ghost use Rattle.sk_script.specs.Limits.{most_sessions};
 ghost use Rattle.sk_run.specs.Ended.{Settles};
+ghost use Rattle.sk_run.specs.Over.{AllRest};
 ghost use Rattle.sk_serial.specs.Played as spec;
 ghost use Rattle.sk_serial.specs.Running.{saved_of, HasText};
 ghost use Rattle.sk_serial.specs.Saving.{Grows, Saves, IsKept, saved_in};
@@ -54,7 +55,9 @@ fn settle<D: Device + Drop, F: Teller + Drop>(
     ensures saves { IfOk result (λ all. Saves D.disk D.faults store all.1) }
     ensures open { IfOk result (λ all. all.1.broken ≡ store.broken) }
     ensures saved { IfOk result (λ all. saved_in all.1 ≡ saved_in store) }
-    ensures waits { IfOk result (λ all. WaitsOn run store.queued all.0 all.1.queued) }
+    ensures waits { IfOk result (λ all. WaitsOn run store all.0 all.1) }
+    // No session has a transaction then.
+    ensures rest { IfOk result (λ all. AllRest all.0) }
     ensures halted { IfErr result (λ h. Grows D.disk D.faults store.disk h.disk) }
     ensures starved { IfErr result (λ h. h.fault ≡ run_fault.NoMemory) }
 {

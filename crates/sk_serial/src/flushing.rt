@@ -1,11 +1,12 @@
 //! Flushes of a run.
 
-ghost use Rattle.std.specs.Prelude.{◌≡◌, ◌⊎◌, [], true, false, IfOk, IfErr};
+ghost use Rattle.std.specs.Prelude.{◌≡◌, ◌⊎◌, [], true, false, None, IfOk, IfErr};
 ghost use Rattle.sk_run.specs.Flushing.{KeepsStill};
 ghost use Rattle.sk_model.specs.declared.receipt.FlushFault.TheVariants as fault;
 ghost use Rattle.sk_serial.specs.Saving.{Grows, Saves, saved_in, saved_by};
 ghost use Rattle.sk_serial.specs.Showing.{IsStill, Appends, SavesOn, batch_of};
 ghost use Rattle.sk_serial.specs.Flushed.{is_broken, IsPast};
+ghost use Rattle.sk_serial.specs.Waiting.{KeepsQueue, NoneCovered};
 ghost use Rattle.sk_serial.specs.declared.run_fault.RunFault.TheVariants as run_fault;
 
 use crate::halt::{Halt, starved};
@@ -47,7 +48,9 @@ fn written<D: Device + Drop, F: Teller + Drop>(
     ensures writes { IsStill store.old store.new ⊎ Appends D.disk store.old (batch_of found) store.new }
     ensures open { IfOk result (λ note. is_broken note ≡ store.new.broken) }
     ensures saved { IfOk result (λ note. saved_in store.new ≡ saved_by note (saved_in store.old)) }
-    ensures queued { store.new.queued ≡ store.old.queued }
+    ensures queue { KeepsQueue store.old store.new }
+    // Where it was not refused, whoever waits still is not covered by its cut.
+    ensures told { IfOk result (λ note. note.refused ≡ None → NoneCovered store.new) }
     ensures full { IfOk result (λ note. IsPast store.old.logmax note.refused) }
 {
     let Found {
@@ -81,7 +84,9 @@ fn find_and_write<D: Device + Drop, F: Teller + Drop>(
     ensures saves { Saves D.disk D.faults store.old store.new }
     ensures open { IfOk result (λ note. is_broken note ≡ store.new.broken) }
     ensures saved { IfOk result (λ note. saved_in store.new ≡ saved_by note (saved_in store.old)) }
-    ensures queued { store.new.queued ≡ store.old.queued }
+    ensures queue { KeepsQueue store.old store.new }
+    // Where it was not refused, whoever waits still is not covered by its cut.
+    ensures told { IfOk result (λ note. note.refused ≡ None → NoneCovered store.new) }
     ensures full { IfOk result (λ note. IsPast store.old.logmax note.refused) }
 {
     match run.find_batch(alloc, store.cut()) {
@@ -106,7 +111,8 @@ pub(crate) fn flush<D: Device + Drop, F: Teller + Drop>(
     ensures saves { IfOk result (λ f. Saves D.disk D.faults store f.1) }
     ensures open { IfOk result (λ f. is_broken f.2 ≡ f.1.broken) }
     ensures saved { IfOk result (λ f. saved_in f.1 ≡ saved_by f.2 (saved_in store)) }
-    ensures queued { IfOk result (λ f. f.1.queued ≡ store.queued) }
+    ensures queue { IfOk result (λ f. KeepsQueue store f.1) }
+    ensures told { IfOk result (λ f. f.2.refused ≡ None → NoneCovered f.1) }
     ensures full { IfOk result (λ f. IsPast store.logmax f.2.refused) }
     ensures halted { IfErr result (λ h. Grows D.disk D.faults store.disk h.disk) }
     ensures starved { IfErr result (λ h. h.fault ≡ run_fault.NoMemory) }

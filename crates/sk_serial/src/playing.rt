@@ -11,10 +11,10 @@ ghost use Rattle.sk_script.specs.Texts.{says_short};
 ghost use Rattle.sk_text.specs.Text.{reply_lines, flush_text};
 ghost use Rattle.sk_run.specs.Told.{IsShort};
 ghost use Rattle.sk_run.specs.Kept.{IsKnown, KeepsOn, RefusesOn};
-ghost use Rattle.sk_run.specs.Over.{OverStay};
+ghost use Rattle.sk_run.specs.Over.{OverStay, OneMoreBy};
 ghost use Rattle.sk_serial.specs.Played as spec;
 ghost use Rattle.sk_serial.specs.Saving.{Grows, Saves, saved_in};
-ghost use Rattle.sk_serial.specs.Waiting.{needed, IsNeedOf, WaitsOn};
+ghost use Rattle.sk_serial.specs.Waiting.{needed, need_if, KeepsQueue, QueuesLast};
 ghost use Rattle.sk_serial.specs.declared.run_fault.RunFault.TheVariants as run_fault;
 
 use crate::flushing::{flush, is_broken};
@@ -59,7 +59,7 @@ fn needed(snapshot: Option<u32>, drew: Option<u32>) -> Option<u32>
 
 /// What a committed transaction waits for.
 fn need_of(transaction: &Record) -> Option<Need>
-    ensures { IfSome result (λ need. IsNeedOf need transaction.now) }
+    ensures { result ≡ need_if transaction.now }
 {
     match transaction.ending {
         Ending::Committed => Some(Need {
@@ -83,7 +83,8 @@ pub(crate) fn queue_last<D: Device + Drop, F: Teller + Drop>(
     ensures open { store.new.broken ≡ store.old.broken }
     ensures saved { saved_in store.new ≡ saved_in store.old }
     ensures limit { store.new.logmax ≡ store.old.logmax }
-    ensures waits { WaitsOn run.now store.old.queued run.now store.new.queued }
+    // With it everybody who committed waits or was told.
+    ensures waits { QueuesLast run.now session store.old store.new }
 {
     if let Some(record) = run.last_record(session) {
         if let Some(need) = need_of(record) {
@@ -100,7 +101,7 @@ pub(crate) fn reserved<D: Device + Drop, F: Teller + Drop>(
     ensures disk { IfOk result (λ s. s.disk ≡ store.disk) }
     ensures open { IfOk result (λ s. s.broken ≡ store.broken) }
     ensures saved { IfOk result (λ s. saved_in s ≡ saved_in store) }
-    ensures queued { IfOk result (λ s. s.queued ≡ store.queued) }
+    ensures queue { IfOk result (λ s. KeepsQueue store s) }
     ensures limit { IfOk result (λ s. s.logmax ≡ store.logmax) }
     ensures halted { IfErr result (λ h. h.disk ≡ store.disk) }
     ensures starved { IfErr result (λ h. h.fault ≡ run_fault.NoMemory) }
@@ -125,6 +126,7 @@ fn answered<D: Device + Drop, F: Teller + Drop>(
     ensures kept { IfOk result (λ all. KeepsOn ⟦<MemEngine as Engine>⟧.stands ⟦<StoreEngine as Engine>⟧.stands run session (option_copied statement.entry) all.0 all.2) }
     ensures refused { IfOk result (λ all. RefusesOn ⟦<MemEngine as Engine>⟧.stands ⟦<StoreEngine as Engine>⟧.stands run session (option_copied statement.entry) all.0 all.2) }
     ensures over { IfOk result (λ all. OverStay run all.0) }
+    ensures one { IfOk result (λ all. OneMoreBy run session all.0) }
     ensures tables { IfOk result (λ all. all.0.catalog ≡ run.catalog) }
     ensures sessions { IfOk result (λ all. length all.0.sessions ≡ length run.sessions) }
     ensures store { IfOk result (λ all. all.1 ≡ store) }

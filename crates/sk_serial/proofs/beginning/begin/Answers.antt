@@ -12,4 +12,4 @@ new-requires-clause-over g c tells image left = opens_over c.args.stored.opened 
 
 pub returns-clause-begun : goal.returns-clause-begun
 returns-clause-begun g c = plays_none g.D.Device.disk mem_stands store_stands c.args.stored.opened c.args.stored.disk c.in-Ok.run' (string_bytes c.new-2.result) c.new.result c.in-Ok.ensures.kept c.in-Ok.ensures.refused
-    c.in-Ok.ensures.tables c.in-Ok.ensures.sessions c.new-2.ensures.bytes (ap (λ (k : Kept _). k.disk) c.new.ensures) (ap (λ (k : Kept _). k.cut) c.new.ensures) (ap (λ (k : Kept _). k.receipts) c.new.ensures) (ap (λ (k : Kept _). k.queued) c.new.ensures)
+    c.in-Ok.ensures.tables c.in-Ok.ensures.sessions c.new-2.ensures.bytes (ap (λ (k : Kept _). k.disk) c.new.ensures) (ap (λ (k : Kept _). k.cut) c.new.ensures) (ap (λ (k : Kept _). k.receipts) c.new.ensures) (ap (λ (k : Kept _). k.queued) c.new.ensures) c.in-Ok.ensures.over

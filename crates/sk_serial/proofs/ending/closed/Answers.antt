@@ -30,7 +30,7 @@ returns-clause-closes g c =
     let old : Now _ = now c.args.playing.run (string_bytes c.args.playing.text) c.args.playing.store c.args.playing.last in
     let new : Now _ = now c.in-Ok.flushed.0 (string_bytes c.in-Ok-with_flush.text) c.in-Ok.flushed.1 c.args.playing.last in
     closes_all g.D.Device.disk mem_stands store_stands old new c.in_ok-run.run' c.in_ok-run.store c.in-Ok.flushed.2 c.args.playing.ended c.if-playing.false c.in_ok-run.ensures.settles
-    (still_of g.D.Device.disk c.args.playing.store c.in_ok-run.store c.in_ok-run.ensures.disk c.in_ok-run.ensures.open c.in_ok-run.ensures.saved) c.in_ok-run.ensures.waits c.in_ok-run.ensures.tables c.in_ok-run.ensures.saves.limit c.in-Ok.ensures.keeps c.in-Ok.ensures.shows c.in-Ok.ensures.queued c.in-Ok.ensures.full c.in-Ok-with_flush.ensures
+    (still_of g.D.Device.disk c.args.playing.store c.in_ok-run.store c.in_ok-run.ensures.disk c.in_ok-run.ensures.open c.in_ok-run.ensures.saved) c.in_ok-run.ensures.waits c.in_ok-run.ensures.rest c.in_ok-run.ensures.tables c.in_ok-run.ensures.saves.limit c.in-Ok.ensures.keeps c.in-Ok.ensures.shows c.in-Ok.ensures.queue c.in-Ok.ensures.told c.in-Ok.ensures.full c.in-Ok-with_flush.ensures
     (c.in-Ok.ensures.saved ∙ ap (saved_by c.in-Ok.flushed.2) c.in_ok-run.ensures.saved) refl
 
 pub returns-clause-saves : goal.returns-clause-saves

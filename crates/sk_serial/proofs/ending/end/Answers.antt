@@ -12,7 +12,7 @@ returns-clause-ends g c =
     let old : Now _ = now c.args.playing.run (string_bytes c.args.playing.text) c.args.playing.store c.args.playing.last in
     let new : Now _ = now c.in_ok-run.field-0.run (string_bytes c.in_ok-run.field-0.text) c.in_ok-run.field-0.store c.in_ok-run.field-0.last in
     ends_so g.D.Device.disk mem_stands store_stands old new c.args.playing.ended c.in-Ok.ended (string_bytes c.in_ok-run.field-0.text) (record { receipts = c.into_parts-disk.result.1; cut = c.into_parts-disk.result.2 }) c.in_ok-run.field-0.last
-    c.into_parts-disk.result.0 c.broken-broken.result c.in_ok-run.ensures.closes c.in-Ok.ensures.hands_out c.in-Ok.ensures.over c.into_parts-disk.ensures.acked refl (rw (c.into_parts-disk.ensures.receipts, c.into_parts-disk.ensures.cut) refl) refl c.into_parts-disk.ensures.disk c.broken-broken.ensures
+    c.into_parts-disk.result.0 c.broken-broken.result c.in_ok-run.ensures.closes c.in-Ok.ensures.hands_out c.in-Ok.ensures.over c.in-Ok.ensures.only c.into_parts-disk.ensures.acked refl (rw (c.into_parts-disk.ensures.receipts, c.into_parts-disk.ensures.cut) refl) refl c.into_parts-disk.ensures.disk c.broken-broken.ensures
 
 pub returns-clause-kept : goal.returns-clause-kept
 returns-clause-kept g c = is_kept g.D.Device.disk g.D.Device.faults c.args.playing.store c.in_ok-run.field-0.store c.into_parts-disk.result.1 c.into_parts-disk.result.2 c.broken-broken.result c.into_parts-disk.result.0

@@ -1,5 +1,6 @@
 -- The sessions so far have ended, and the store was left alone.
-use Rattle.std.proofs.Common.{◌≡◌, length}
+use Rattle.std.proofs.Common.{ℕ, ◌≡◌, ◌≤◌, length}
+use Rattle.sk_run.specs.Over.{RestsAt}
 use Rattle.sk_run.specs.Ended.{Settles}
 use Rattle.sk_run.proofs.Stands.{mem_stands, store_stands}
 use Rattle.sk_script.specs.Limits.{most_sessions}
@@ -16,5 +17,6 @@ invariant-loop-before g l = record {
   limit : l.store.logmax ≡ l.fn.store.logmax;
   whole : l.store.broken ≡ l.fn.store.broken;
   saved : saved_in l.store ≡ saved_in l.fn.store;
-  waits : WaitsOn l.fn.run l.fn.store.queued l.run l.store.queued;
+  waits : WaitsOn l.fn.run l.fn.store l.run l.store;
+  rest : (n : ℕ) → 1 ≤ n → n ≤ l.before → RestsAt l.run n;
 }

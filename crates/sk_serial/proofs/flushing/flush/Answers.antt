@@ -1,5 +1,6 @@
 -- What a flush found keeps the run, and so do the purges.
-use Rattle.std.proofs.Common.{refl, sym, subst}
+use Rattle.std.proofs.Common.{refl, sym, ap, subst, ◌∙◌}
+use Rattle.sk_outcome.specs.declared.flush_note.FlushNote.{FlushNote}
 use Rattle.sk_run.specs.Flushing.{KeepsStill}
 use Rattle.sk_run.specs.State.{RunState}
 use Rattle.sk_run.proofs.Stands.{mem_stands, store_stands}
@@ -21,4 +22,10 @@ returns-clause-shows g c = elim c.if-not-is_broken.branch [
       (saves_both g.D.Device.disk mem_stands store_stands c.args.run c.find_and_write.new.run w.purge-mem.new.self c.args.store c.find_and_write.new.store c.find_and_write.new.store c.find_and_write.ensures.shows
       (saves_still g.D.Device.disk mem_stands store_stands c.find_and_write.new.run w.purge-mem.new.self c.find_and_write.new.store c.find_and_write.new.store w.purge-mem.ensures (still_of g.D.Device.disk c.find_and_write.new.store c.find_and_write.new.store refl refl refl)))
   | else-not-is_broken w ↦ subst (λ (x : RunState). SavesOn g.D.Device.disk mem_stands store_stands c.args.run c.args.store x c.find_and_write.new.store) (sym w.run-is) c.find_and_write.ensures.shows
+]
+
+pub returns-clause-told : goal.returns-clause-told
+returns-clause-told g c = elim c.if-not-is_broken.branch [
+  | then-not-is_broken w ↦ λ none. c.in-Ok.ensures.told (sym (ap (λ (n : FlushNote). n.refused) w.note-is) ∙ none)
+  | else-not-is_broken w ↦ λ none. c.in-Ok.ensures.told (sym (ap (λ (n : FlushNote). n.refused) w.note-is) ∙ none)
 ]

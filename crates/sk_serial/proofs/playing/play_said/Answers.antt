@@ -1,5 +1,5 @@
 -- The session was answered so, and the store was left alone.
-use Rattle.std.proofs.Common.{rules, ◌≡◌, Some, refl, ap, ◌∙◌}
+use Rattle.std.proofs.Common.{rules, ◌≡◌, Some, refl, sym, ap, subst, ◌∙◌}
 use Rattle.std.specs.Prelude.{IfErr}
 use Rattle.std.specs.Option.{option_copied}
 use Rattle.std.specs.String.{string_bytes}
@@ -9,7 +9,8 @@ use Rattle.sk_serial.specs.Saving.{saved_in}
 use Rattle.sk_serial.specs.Played.{Now, now}
 use Rattle.sk_serial.proofs.Showing.{still_of}
 use Rattle.sk_serial.proofs.Plays.{plays_said, said_next}
-use Rattle.sk_serial.proofs.Acknowledged.{waits_same, waits_on}
+use Rattle.sk_serial.specs.Waiting.{KeepsQueue}
+use Rattle.sk_serial.proofs.Waiting.{almost_then}
 use Rattle.sk_serial.proofs.Saves.{saves_same, grows_same, err_grows}
 use Rattle.sk_serial.proofs.playing.play_said.Goals as goal
 
@@ -24,8 +25,8 @@ returns-clause-played g c =
     (c.queue_last.ensures.saved ∙ ap saved_in c.in_ok-run.ensures.store ∙ c.in_ok-store.ensures.saved))
     (c.queue_last.ensures.saved ∙ ap saved_in c.in_ok-run.ensures.store ∙ c.in_ok-store.ensures.saved)
     (c.queue_last.ensures.limit ∙ ap (λ (k : Kept _). k.logmax) c.in_ok-run.ensures.store ∙ c.in_ok-store.ensures.limit)
-    (waits_on c.args.playing.run c.in_ok-run.run' c.in_ok-run.run' c.args.playing.store.queued c.in_ok-run.store.queued c.queue_last.new.store.queued
-    (waits_same c.args.playing.run c.in_ok-run.run' c.args.playing.store.queued c.in_ok-run.store.queued c.in_ok-run.ensures.over (ap (λ (k : Kept _). k.queued) c.in_ok-run.ensures.store ∙ c.in_ok-store.ensures.queued)) c.queue_last.ensures.waits)
+    (λ few h. c.queue_last.ensures.waits (c.in_ok-run.ensures.sessions ∙ few)
+    (almost_then c.args.playing.run c.in_ok-run.run' c.args.session c.args.playing.store c.in_ok-run.store c.in_ok-run.ensures.over c.in_ok-run.ensures.one (subst (KeepsQueue c.args.playing.store) (sym c.in_ok-run.ensures.store) c.in_ok-store.ensures.queue) h))
     refl)
 
 pub returns-clause-saves : goal.returns-clause-saves

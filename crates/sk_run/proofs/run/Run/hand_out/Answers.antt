@@ -14,8 +14,8 @@ use Rattle.sk_run.specs.Ended.{HandsOut}
 use Rattle.sk_run.specs.declared.ended.Ended.{Ended}
 use Rattle.sk_run.proofs.Stands.{mem_stands, store_stands}
 use Rattle.sk_linked.specs.Traces.{In}
-use Rattle.sk_run.specs.Over.{HasAllOver}
-use Rattle.sk_run.proofs.Over.{over_is_out}
+use Rattle.sk_run.specs.Over.{AllRest, HasAllOver, HasOnlyOver}
+use Rattle.sk_run.proofs.Over.{over_is_out, out_is_over}
 use Rattle.sk_run.proofs.Ending.{same_left, was_left, in_turn, ended}
 use Rattle.sk_run.proofs.run.Run.hand_out.Goals as goal
 
@@ -52,3 +52,6 @@ returns-clause-hands_out c =
 
 pub returns-clause-over : goal.returns-clause-over
 returns-clause-over c = subst (λ (x : RunState). HasAllOver x c.in_ok-records.records) c.self.view_is (λ r o. subst (In r) (sym c.in_ok-records.ensures) (over_is_out _ r o))
+
+pub returns-clause-only : goal.returns-clause-only
+returns-clause-only c = subst (λ (x : RunState). AllRest x → HasOnlyOver x c.in_ok-records.records) c.self.view_is (λ rest r i. out_is_over _ r c.self.invariant.3.over rest (subst (In r) c.in_ok-records.ensures i))

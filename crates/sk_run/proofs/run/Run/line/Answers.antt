@@ -7,8 +7,10 @@ use Rattle.sk_run.specs.State.{RunState}
 use Rattle.sk_run.specs.Kept.{KeepsOn, RefusesOn}
 use Rattle.sk_run.proofs.Lines.{line_by}
 use Rattle.sk_run.proofs.Stands.{mem_stands, store_stands}
-use Rattle.sk_run.specs.Over.{OverStay}
+use Rattle.sk_session.specs.Over.{RestsStill}
+use Rattle.sk_run.specs.Over.{OverStay, OneMoreBy, OthersStay, session_at}
 use Rattle.sk_run.proofs.Over.{turn_stays}
+use Rattle.sk_run.proofs.Spoken.{others_by, one_by, rests_by}
 use Rattle.sk_run.proofs.Going.{is_inside, line_keeps}
 use Rattle.sk_run.proofs.Refusing.{line_refuses_on}
 use Rattle.sk_run.proofs.run.Run.line.Goals as goal
@@ -47,3 +49,27 @@ returns-clause-over c =
     (turn_stays _ new (c.args.session - 1) c.in-Some.speaker.now c.answer_line.new.speaker
     (is_inside c.args.session (length c.self.inside.sessions.items) c.requires.known.0 (subst (λ (x : RunState). c.args.session ≤ length x.sessions) (sym c.self.view_is) c.requires.known.1))
     c.in-Some.ensures.value refl c.in_ok-reply-in-Some.ensures.over)
+
+pub returns-clause-others : goal.returns-clause-others
+returns-clause-others c =
+    let new : RunState = record { catalog = c.self.inside.catalog; sessions = set c.self.inside.sessions.items (c.args.session - 1) c.answer_line.new.speaker; shared = c.answer_line.new.shared } in
+    subst (λ (x : RunState). OthersStay x c.args.session new) c.self.view_is
+    (others_by (record { catalog = c.self.inside.catalog; sessions = c.self.inside.sessions.items; shared = c.self.inside.shared }) new c.args.session c.in-Some.speaker.now c.answer_line.new.speaker
+    (is_inside c.args.session (length c.self.inside.sessions.items) c.requires.known.0 (subst (λ (x : RunState). c.args.session ≤ length x.sessions) (sym c.self.view_is) c.requires.known.1))
+    c.in-Some.ensures.value refl c.requires.known.0)
+
+pub returns-clause-one : goal.returns-clause-one
+returns-clause-one c =
+    let new : RunState = record { catalog = c.self.inside.catalog; sessions = set c.self.inside.sessions.items (c.args.session - 1) c.answer_line.new.speaker; shared = c.answer_line.new.shared } in
+    subst (λ (x : RunState). OneMoreBy x c.args.session new) c.self.view_is
+    (one_by (record { catalog = c.self.inside.catalog; sessions = c.self.inside.sessions.items; shared = c.self.inside.shared }) new c.args.session c.in-Some.speaker.now c.answer_line.new.speaker
+    (is_inside c.args.session (length c.self.inside.sessions.items) c.requires.known.0 (subst (λ (x : RunState). c.args.session ≤ length x.sessions) (sym c.self.view_is) c.requires.known.1))
+    c.in-Some.ensures.value refl c.self.invariant.3.over c.in_ok-reply-in-Some.ensures.over)
+
+pub returns-clause-rests : goal.returns-clause-rests
+returns-clause-rests c = λ none.
+    let new : RunState = record { catalog = c.self.inside.catalog; sessions = set c.self.inside.sessions.items (c.args.session - 1) c.answer_line.new.speaker; shared = c.answer_line.new.shared } in
+    subst (λ (x : RunState). RestsStill (session_at x c.args.session) (session_at new c.args.session)) c.self.view_is
+    (rests_by (record { catalog = c.self.inside.catalog; sessions = c.self.inside.sessions.items; shared = c.self.inside.shared }) new c.args.session c.in-Some.speaker.now c.answer_line.new.speaker
+    (is_inside c.args.session (length c.self.inside.sessions.items) c.requires.known.0 (subst (λ (x : RunState). c.args.session ≤ length x.sessions) (sym c.self.view_is) c.requires.known.1))
+    c.in-Some.ensures.value refl (c.in_ok-reply-in-Some.ensures.rests none))

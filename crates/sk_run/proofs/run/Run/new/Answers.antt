@@ -6,6 +6,7 @@ use Rattle.sk_session.specs.Starting.{fresh}
 use Rattle.sk_rows.specs.Catalog.{IsCatalog}
 use Rattle.sk_run.specs.Told.{AreRefused}
 use Rattle.sk_run.proofs.Beginning.{kept_first}
+use Rattle.sk_run.proofs.Over.{none_over}
 use Rattle.sk_run.proofs.Refusing.{none_refused}
 use Rattle.sk_run.proofs.run.Run.new.Goals as goal
 
@@ -21,3 +22,6 @@ returns-clause-sessions c = ap length c.in_ok-sessions.ensures ∙ length-map-ra
 
 pub returns-clause-refused : goal.returns-clause-refused
 returns-clause-refused c = subst (AreRefused c.args.catalog 1 []) (sym c.in_ok-sessions.ensures) (none_refused c.args.catalog 1 c.args.sessions)
+
+pub returns-clause-over : goal.returns-clause-over
+returns-clause-over c = none_over _ _ c.in_ok-sessions.ensures
