@@ -18,3 +18,4 @@ pub mod Checking
 pub mod Choosing
 pub mod Horizons
 pub mod Ends
+pub mod Passing

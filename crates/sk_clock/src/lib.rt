@@ -17,3 +17,6 @@ pub use closing::Closed;
 pub use pass::{Clock, Pass};
 pub use sk_weave::{CutFound, DrawFault, Event, Passed, Point, Recycled, Selected};
 pub use view::{Entry, Own, Rule, Start, View, WordStep};
+
+#[cfg(test)]
+mod tests;
